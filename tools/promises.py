@@ -1,0 +1,69 @@
+#!/usr/bin/env python3
+"""What the prover does not look at: that every public function promises something, and that every top-level theorem is there.
+
+Fails where a public function of a library has a `requires`, where one has no `ensures`, or where a theorem of the list below is missing:
+its file must be declared by its crate's proofs/Lib.antt and hold the signature as written here, and the statement that the signature names
+must be defined in the specs/ of that crate.
+"""
+import pathlib
+import re
+import sys
+
+ROOT = pathlib.Path(__file__).resolve().parent.parent
+
+# crate, proof file, theorem, its statement: the one place where the statement is proved.
+THEOREMS = [
+]
+
+FUNCTION = re.compile(r"^\s*pub\s+(?:extern\s+\"C\"\s+)?fn\s+(\w+)")
+CLAUSE = re.compile(r"^\s*(requires|ensures)\b")
+
+
+def clauses(lines, start):
+    """The contract clauses that stand between a function's name and its body, which `rt fmt` opens with a `{` at the line's start or end."""
+    found = []
+    for line in lines[start:]:
+        clause = CLAUSE.match(line)
+        if clause:
+            found.append(clause.group(1))
+        elif line.strip() == "{" or line.rstrip().endswith(") {") or re.search(r"-> .*\{$", line):
+            break
+    return found
+
+
+def contract_faults():
+    for source in sorted((ROOT / "crates").glob("*/src/*.rt")):
+        if source.name == "main.rt":
+            continue
+        lines = source.read_text().split("\n")
+        for number, line in enumerate(lines):
+            name = FUNCTION.match(line)
+            if not name:
+                continue
+            found = clauses(lines, number)
+            place = f"{source.relative_to(ROOT)}:{number + 1}: pub fn {name.group(1)}"
+            if "requires" in found:
+                yield f"{place} has a `requires`"
+            if "ensures" not in found:
+                yield f"{place} has no `ensures`"
+
+
+def theorem_faults():
+    for crate, file, theorem, statement in THEOREMS:
+        folder = ROOT / "crates" / crate
+        proof = folder / "proofs" / f"{file}.antt"
+        declared = (folder / "proofs" / "Lib.antt").read_text().split("\n")
+        if f"pub mod {file}" not in declared and f"mod {file}" not in declared:
+            yield f"{crate}: proofs/Lib.antt does not declare {file}"
+        if not proof.exists() or f"pub {theorem} : {statement}\n" not in proof.read_text():
+            yield f"{crate}: proofs/{file}.antt does not prove `{theorem} : {statement}`"
+        defined = re.compile(rf"^(?:abbrev |unfoldable )?pub (?:record |data )?{re.escape(statement.split()[0])}\b", re.M)
+        if not any(defined.search(spec.read_text()) for spec in (folder / "specs").glob("*.antt")):
+            yield f"{crate}: specs/ does not state `{statement}`"
+
+
+faults = [*contract_faults(), *theorem_faults()]
+for fault in faults:
+    print(fault)
+print(f"{len(THEOREMS)} theorems listed, {len(faults)} faults")
+sys.exit(1 if faults else 0)
