@@ -1,0 +1,5 @@
+pub mod Table
+pub mod Lists
+pub mod Absorb
+pub mod Promises
+pub mod Rotations

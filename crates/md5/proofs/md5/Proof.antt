@@ -1,0 +1,34 @@
+-- `md5::md5` meets its contract: a fresh state, fed once and finished.
+use mathlib.Core.Path.{_≡_, sym, ap, _∙_}
+use Rattle.refusal.specs.Number.{done}
+use Rattle.md5.specs.declared.Digest.{Digest}
+use Rattle.md5.specs.declared.Fed.{Fed}
+use Rattle.md5.specs.declared.Finished.{Finished}
+use Rattle.md5.specs.Entries.{fresh, feedOf, finishOf, noDigest}
+use Rattle.md5.proofs.Promises.{md5-fed-refused, md5-fed-taken}
+use borrow.Author.Needs.{needs}
+use Rattle.md5.proofs.md5.Statement.{statement}
+use Rattle.md5.proofs.md5.Tie as tie
+use Rattle.md5.proofs.Digest.begin.Reads as begin-reads
+use Rattle.md5.proofs.Digest.feed.Reads as feed-reads
+use Rattle.md5.proofs.Digest.finish.Reads as finish-reads
+
+begin-requires : tie.Need-begin-requires
+begin-requires c κs = search needs
+
+feed-requires : tie.Need-feed-requires
+feed-requires c κs = search needs
+
+returns : tie.Need-returns
+returns c = let e : c .before .before .feed .result ≡ feedOf fresh (c .before .before .before .before .before .args .message .now) = c .before .before .feed .ensures ∙ ap (λ (d : Digest). feedOf d (c .before .before .before .before .before .args .message .now)) (c .before .before .before .begin .ensures) in
+    md5-fed-refused _ _ e (search needs)
+
+finish-requires : tie.Need-finish-requires
+finish-requires c κs = search needs
+
+returns-2 : tie.Need-returns-2
+returns-2 c = let e : c .before .before .before .before .feed .result ≡ feedOf fresh (c .before .before .before .before .before .before .before .args .message .now) = c .before .before .before .before .feed .ensures ∙ ap (λ (d : Digest). feedOf d (c .before .before .before .before .before .before .before .args .message .now)) (c .before .before .before .before .before .begin .ensures) in
+    c .finish .ensures ∙ md5-fed-taken _ _ e (search needs)
+
+pub md5-spec : {M : Type 1} → statement M
+md5-spec = tie.close (tie.spec begin-requires feed-requires returns finish-requires returns-2)
