@@ -127,8 +127,7 @@ pub tail-absorbed : (d : Digest) (s : List ℕ) → length (d .tail) ≡ 64
 unfolding absorb settle zeroed rest
 tail-absorbed d s l =
     let r = rest (held d ++ s) in
-    let e = length-left d s l in
-    (
+    let e = length-left d s l in (
       length-append r (replicate (64 - length r) 0) ∙ omega (arith, length-replicate {A = ℕ} (64 - length r) 0),
       drop-at r (replicate (64 - length r) 0) ((d .total + length s) % 64) e ∙ ap (λ (n : ℕ). replicate (64 - n) 0) e,
     )

@@ -3,3 +3,4 @@ pub mod Lists
 pub mod Absorb
 pub mod Promises
 pub mod Rotations
+pub mod Vectors

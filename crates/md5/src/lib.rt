@@ -11,10 +11,10 @@ ghost use Rattle.md5.specs.Entries.{fresh, zeroed, settle, absorb, feedO
 use refusal::Refusal;
 
 // The most bytes that one digest takes.
-const DIGEST_MOST: usize = 65535;
+pub const DIGEST_MOST: usize = 65535;
 
 // The bytes of a block.
-const BLOCK: usize = 64;
+pub const BLOCK: usize = 64;
 
 // RFC 1321, section 3.4: the 64 additive constants, T[i] the whole part of 2^32 * abs(sin(i + 1)), by step number.
 const ADDITIVE: [u32; 64] = [

@@ -1,0 +1,54 @@
+-- `hmac_md5::digest_after` meets its contract: two pieces from a fresh state.
+use mathlib.Core.Path.{_≡_, ap, _∙_}
+use lib.ListN.{length}
+use Rattle.md5.specs.declared.Digest.{Digest}
+use Rattle.md5.specs.declared.Fed.{Fed}
+use Rattle.md5.specs.declared.Finished.{Finished}
+use Rattle.md5.specs.Entries.{feedOf, finishOf}
+use Rattle.hmac_md5.proofs.Masks.{two-pieces}
+use borrow.Author.Needs.{needs}
+use native.Mathlib.Omega.{arith}
+use Rattle.hmac_md5.proofs.digest_after.Statement.{statement}
+use Rattle.hmac_md5.proofs.digest_after.Tie as tie
+use Rattle.md5.proofs.Digest.begin.Reads as begin-reads
+use Rattle.md5.proofs.Digest.feed.Reads as feed-reads
+use Rattle.md5.proofs.Digest.finish.Reads as finish-reads
+
+block-length : (c : tie.Start) → length (c .args .t1) ≡ 64
+block-length c = search needs
+
+begin-requires : tie.Need-begin-requires
+begin-requires c κs = search needs
+
+slice-aggregate-feed : tie.Need-slice-aggregate-feed
+slice-aggregate-feed c = search needs
+
+feed-requires : tie.Need-feed-requires
+feed-requires c κs = search needs
+
+feed-requires-2 : tie.Need-feed-requires-2
+feed-requires-2 c κs = search needs
+
+finish-requires : tie.Need-finish-requires
+finish-requires c κs = search needs
+
+returns : tie.Need-returns
+returns c = let a = c .before .before .before .before .before .before .before .before .before .args in
+    let s = a .s .now in
+    let l = block-length (c .before .before .before .before .before .before .before .before .before) in
+    ap (λ (f : Finished). f .digest)
+    (c .before .finish .ensures
+    ∙ ap (λ (f : Fed). finishOf (f .state))
+    (c .before .before .before .feed2 .ensures ∙ ap (λ (f : Fed). feedOf (f .state) s) (c .before .before .before .before .before .feed .ensures ∙ ap (λ (d : Digest). feedOf d (a .t1)) (c .before .before .before .before .before .before .before .begin .ensures)))
+    ∙ two-pieces (a .t1) s (omega (arith, c .before .before .before .before .before .before .before .before .before .pre)))
+
+pub digest-after-spec : {M : Type 1} → statement M
+digest-after-spec =
+    tie.close
+    (tie.spec
+    begin-requires
+    slice-aggregate-feed
+    feed-requires
+    feed-requires-2
+    finish-requires
+    returns)

@@ -1,0 +1,79 @@
+// HMAC-MD5 (RFC 2104) for keys up to a block (document 01, 'MD5 and HMAC-MD5').
+// Not here: longer keys, which RFC 2104 digests first.
+ghost use mathlib.Core.Path.{_≡_};
+ghost use mathlib.Core.List.{_++_};
+ghost use Prim.Native.Nat.{_+_, _≤_};
+ghost use lib.ListN.{length};
+ghost use Rattle.md5.specs.Message.{md5};
+ghost use Rattle.md5.specs.Entries.{digestMost};
+ghost use Rattle.hmac_md5.specs.Hmac.{masked, keyMost, hmacOf};
+use md5::Digest;
+use refusal::Refusal;
+
+// The longest key.
+const KEY_MOST: usize = 64;
+
+// The longest message: what a digest takes, less the block that the key fills.
+const MESSAGE_MOST: usize = md5::DIGEST_MOST - md5::BLOCK;
+
+// RFC 2104, section 2: the bytes of ipad and opad.
+const INNER: u8 = 0x36;
+
+const OUTER: u8 = 0x5c;
+
+// What HMAC gives: number 0 and the MAC, or the refusal's number and 16 zero bytes.
+pub struct Mac {
+    pub number: u8,
+    pub mac: [u8; 16],
+}
+
+// The key with zeros after it up to a block, each byte by exclusive or with the mask.
+fn masked_key(key: &[u8], mask: u8) -> [u8; 64]
+    requires { ⌜ length (now key) ≤ keyMost ⌝ }
+    ensures { λ r. ⌜ r ≡ masked (now (key .entry)) mask ⌝ }
+{
+    let mut block = [mask; 64];
+    let mut i: usize = 0;
+    while i < key.len() {
+        block[i] = key[i] ^ mask;
+        i += 1;
+    }
+    block
+}
+
+// The digest of a block and what follows it.
+fn digest_after(block: [u8; 64], s: &[u8]) -> [u8; 16]
+    requires { ⌜ 64 + length (now s) ≤ digestMost ⌝ }
+    ensures { λ r. ⌜ r ≡ md5 (block ++ now (s .entry)) ⌝ }
+{
+    let keyed = Digest::begin().feed(&block);
+    let begun = keyed.state;
+    let fed = begun.feed(s);
+    let whole = fed.state;
+    let done = whole.finish();
+    done.digest
+}
+
+// The MAC of a message under a key; refused where the key is longer than a block or the inner digest would pass its limit.
+pub fn hmac(key: &[u8], message: &[u8]) -> Mac
+    ensures { λ r. ⌜ r ≡ hmacOf (now (key .entry)) (now (message .entry)) ⌝ }
+{
+    if KEY_MOST < key.len() {
+        return Mac {
+            number: refusal::number(Refusal::TooLong),
+            mac: [0u8; 16],
+        };
+    }
+    if MESSAGE_MOST < message.len() {
+        return Mac {
+            number: refusal::number(Refusal::TooLong),
+            mac: [0u8; 16],
+        };
+    }
+    let inner = digest_after(masked_key(key, INNER), message);
+    let outer = digest_after(masked_key(key, OUTER), &inner);
+    Mac {
+        number: 0,
+        mac: outer,
+    }
+}
