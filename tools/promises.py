@@ -13,6 +13,11 @@ ROOT = pathlib.Path(__file__).resolve().parent.parent
 
 # crate, proof file, theorem, its statement: the one place where the statement is proved.
 THEOREMS = [
+    ("md5", "Promises", "any-cutting", "AnyCutting"),
+    ("md5", "Promises", "pieces-taken", "PiecesTaken"),
+    ("md5", "Promises", "tail-zero", "TailZero"),
+    ("md5", "Promises", "refused-kept", "RefusedKept"),
+    ("md5", "Promises", "padded-size", "PaddedSize"),
 ]
 
 FUNCTION = re.compile(r"^\s*pub\s+(?:extern\s+\"C\"\s+)?fn\s+(\w+)")
