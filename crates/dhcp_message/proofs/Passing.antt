@@ -1,0 +1,167 @@
+-- Messages that pass checks 2 to 7: what they are known to have, where their options stand, and how one is put together.
+use mathlib.Core.Path.{_≡_, refl, sym, ap, ap₂, _∙_, subst}
+use mathlib.Core.Logic.{_≢_}
+use Prim.Native.Nat.{ℕ, zero, suc, _+_, _-_, _≤_, _<_}
+use native.Mathlib.Omega.{arith}
+use mathlib.Core.Bool.{Bool, true, false, cond}
+use mathlib.Core.List.{List, [], _∷_, _++_, append-assoc}
+use lib.ListN.{length, take, drop, getD, length-append, length-take, length-drop, take-append-drop}
+use lib.Seq.{length-take-le, take-at, drop-at, drop-append-le, drop-append-add}
+use lib.Dec.{ltb, eqb}
+use borrow.Author.Tests.{le-ltb, ne-eqb, eqb-false, ltb-false}
+use Rattle.refusal.specs.declared.Refusal.the-variants.{MessageSize, WrongCookie, BrokenOptions, NoAuthentication, RepeatedAuthentication, RelayInformation}
+use Rattle.dhcp_message.specs.Layout.{magicCookie}
+use Rattle.dhcp_message.specs.Bytes.{starts}
+use Rattle.dhcp_message.specs.Options.{Token, pad, opt, Parsed, cut, parsed, encode, decode}
+use Rattle.dhcp_message.specs.Message.{count, optionOf, before, offsetOf, isLast, Checked, stopped, passed, checkedTokens, checkedParsed, checkedOf, Passed, Passes27}
+use Rattle.dhcp_message.proofs.Lists.{starts-append}
+use Rattle.dhcp_message.proofs.Decoding.{Codes, decode-encode, encode-decode}
+use Rattle.dhcp_message.proofs.Tokens.{Split, split, encode-append, option-there, before-there}
+
+pub record Passing (m : List ℕ) (ts : List Token) (rest : List ℕ) : Type 0 where
+  pub long : 241 ≤ length m
+  pub short : length m ≤ 1472
+  pub magic : starts magicCookie (drop 236 m) ≡ true
+  pub reads : decode (drop 240 m) ≡ parsed ts rest
+  pub one-90 : count 90 ts ≡ 1
+  pub most-82 : count 82 ts ≤ 1
+  pub last-82 : isLast 82 ts ≡ true
+
+pub once : (n : ℕ) → n ≢ 0 → n ≤ 1 → n ≡ 1
+once zero h l = absurd (h refl)
+once (suc n) h l = omega arith
+
+abbrev Good : List ℕ → Checked → Type 0
+Good m (stopped r) = Unit {0}
+Good m (passed ts rest) = Passing m ts rest
+
+module _ (m : List ℕ) where
+  good-tokens : 241 ≤ length m → length m ≤ 1472 → starts magicCookie (drop 236 m) ≡ true → (ts : List Token) (rest : List ℕ) → decode (drop 240 m) ≡ parsed ts rest
+      → (x y z l : Bool) → eqb (count 90 ts) 0 ≡ x → ltb 1 (count 90 ts) ≡ y → ltb 1 (count 82 ts) ≡ z → isLast 82 ts ≡ l
+      → Good m (cond x (stopped NoAuthentication) (cond y (stopped RepeatedAuthentication) (cond z (stopped RelayInformation) (cond l (passed ts rest) (stopped RelayInformation)))))
+  good-tokens a b k ts rest e true y z l hx hy hz hl = tt
+  good-tokens a b k ts rest e false true z l hx hy hz hl = tt
+  good-tokens a b k ts rest e false false true l hx hy hz hl = tt
+  good-tokens a b k ts rest e false false false false hx hy hz hl = tt
+  good-tokens a b k ts rest e false false false true hx hy hz hl = record {
+    long = a;
+    short = b;
+    magic = k;
+    reads = e;
+    one-90 = once (count 90 ts) (eqb-false (count 90 ts) 0 hx) (ltb-false 1 (count 90 ts) hy);
+    most-82 = ltb-false 1 (count 82 ts) hz;
+    last-82 = hl;
+  }
+
+  good-parsed : 241 ≤ length m → length m ≤ 1472 → starts magicCookie (drop 236 m) ≡ true → (p : Parsed) → decode (drop 240 m) ≡ p → Good m (checkedParsed p)
+  unfolding checkedTokens
+  good-parsed a b k cut e = tt
+  good-parsed a b k (parsed ts rest) e = good-tokens a b k ts rest e _ _ _ _ refl refl refl refl
+
+  good-sizes : (x y k : Bool) → ltb (length m) 241 ≡ x → ltb 1472 (length m) ≡ y → starts magicCookie (drop 236 m) ≡ k
+      → Good m (cond x (stopped MessageSize) (cond y (stopped MessageSize) (cond k (checkedParsed (decode (drop 240 m))) (stopped WrongCookie))))
+  good-sizes true y k hx hy hk = tt
+  good-sizes false true k hx hy hk = tt
+  good-sizes false false false hx hy hk = tt
+  good-sizes false false true hx hy hk = good-parsed (ltb-false _ _ hx) (ltb-false _ _ hy) hk (decode (drop 240 m)) refl
+
+  good : Good m (checkedOf m)
+  unfolding checkedOf
+  good = good-sizes _ _ (starts magicCookie (drop 236 m)) refl refl refl
+
+  pub passing : (ts : List Token) (rest : List ℕ) → checkedOf m ≡ passed ts rest → Passing m ts rest
+  passing ts rest e = subst (Good m) e good
+
+  pub checks : (ts : List Token) (rest : List ℕ) → Passing m ts rest → checkedOf m ≡ passed ts rest
+  unfolding checkedOf checkedTokens
+  checks ts rest p =
+      let a : count 90 ts ≢ 0 = λ e. omega (arith, p .one-90) in
+      let b : count 90 ts ≤ 1 = omega (arith, p .one-90) in
+      rw (le-ltb _ _ (p .long), le-ltb _ _ (p .short), p .magic, p .reads, ne-eqb _ _ a, le-ltb _ _ b, le-ltb _ _ (p .most-82), p .last-82)
+
+  pub passing-27 : (ts : List Token) (rest : List ℕ) → Passing m ts rest → Passes27 m
+  passing-27 ts rest p = subst Passed (sym (checks ts rest p)) tt
+
+  -- the tokens and the rest of a message that passes
+  pub record Tokens : Type 0 where
+    pub tokens : List Token
+    pub rest : List ℕ
+    pub checked : checkedOf m ≡ passed tokens rest
+
+  pub tokens-of : Passes27 m → Tokens
+  tokens-of h = by (checkedOf m) refl h
+    where
+      by : (c : Checked) → checkedOf m ≡ c → Passed c → Tokens
+      by (stopped r) e h = absurd h
+      by (passed ts rest) e h = record { tokens = ts; rest = rest; checked = e }
+
+-- ---- a message put together
+
+module _ (m head : List ℕ) (ts : List Token) (rest : List ℕ) (is : m ≡ head ++ (encode ts ++ (255 ∷ rest))) (size : length head ≡ 240) where
+  pub take-built : take 240 m ≡ head
+  take-built = ap (take 240) is ∙ take-at head _ 240 size
+
+  pub reads-built : Codes ts → decode (drop 240 m) ≡ parsed ts rest
+  reads-built cs = ap decode (ap (drop 240) is ∙ drop-at head _ 240 size) ∙ decode-encode ts rest cs
+
+  pub magic-built : starts magicCookie (drop 236 m) ≡ starts magicCookie (drop 236 head)
+  magic-built =
+      let l : 236 ≤ length head = omega arith in
+      let n : length magicCookie ≤ length (drop 236 head) = rw length-drop (omega arith) in
+      ap (λ (x : List ℕ). starts magicCookie (drop 236 x)) is
+      ∙ ap (starts magicCookie) (drop-append-le 236 head _ l)
+      ∙ starts-append magicCookie (drop 236 head) _ n
+
+  pub passing-built : Codes ts → count 90 ts ≡ 1 → count 82 ts ≤ 1 → isLast 82 ts ≡ true → starts magicCookie (drop 236 head) ≡ true → length m ≤ 1472 → Passing m ts rest
+  passing-built cs one most last magic fits = record {
+    long = rw (is, length-append, size, length-append) (omega arith);
+    short = fits;
+    magic = magic-built ∙ magic;
+    reads = reads-built cs;
+    one-90 = one;
+    most-82 = most;
+    last-82 = last;
+  }
+
+-- ---- its bytes
+
+module _ (m : List ℕ) (ts : List Token) (rest : List ℕ) (p : Passing m ts rest) where
+  pub header-size : length (take 240 m) ≡ 240
+  header-size = length-take-le 240 m (omega (arith, p .long))
+
+  pub codes : Codes ts
+  codes = encode-decode (drop 240 m) ts rest (p .reads) .1
+
+  pub whole : m ≡ take 240 m ++ (encode ts ++ (255 ∷ rest))
+  whole = sym (take-append-drop 240 m) ∙ ap (λ (l : List ℕ). take 240 m ++ l) (sym (encode-decode (drop 240 m) ts rest (p .reads) .0))
+
+  pub header-magic : starts magicCookie (drop 236 (take 240 m)) ≡ true
+  header-magic = sym (magic-built m (take 240 m) ts rest whole header-size) ∙ p .magic
+
+  -- around the first option of a code
+  module _ (c : ℕ) (s : Split c ts) where
+    pub around : m ≡ (take 240 m ++ encode (s .front)) ++ (c ∷ length (s .body) ∷ (s .body ++ (encode (s .back) ++ (255 ∷ rest))))
+    around = whole ∙ ap (λ (us : List Token). take 240 m ++ (encode us ++ (255 ∷ rest))) (s .tokens) ∙ simp (encode-append, append-assoc)
+
+    pub front-size : length (take 240 m ++ encode (s .front)) ≡ offsetOf c ts
+    front-size =
+        length-append (take 240 m) (encode (s .front))
+        ∙ ap₂ (λ (n : ℕ) (us : List Token). n + length (encode us)) header-size (sym (before-there c (s .front) (s .body) (s .back) (s .none-front)) ∙ ap (before c) (sym (s .tokens)))
+
+    pub option-is : optionOf c ts ≡ c ∷ length (s .body) ∷ s .body
+    option-is = ap (optionOf c) (s .tokens) ∙ option-there c (s .front) (s .body) (s .back) (s .none-front)
+
+    pub from-option : drop (offsetOf c ts) m ≡ optionOf c ts ++ (encode (s .back) ++ (255 ∷ rest))
+    from-option =
+        ap (drop (offsetOf c ts)) around ∙ drop-at (take 240 m ++ encode (s .front)) _ (offsetOf c ts) front-size
+        ∙ ap (λ (x : List ℕ). x ++ (encode (s .back) ++ (255 ∷ rest))) (sym option-is)
+
+    pub inside : offsetOf c ts + length (optionOf c ts) < length m
+    inside =
+        let a = ap length around in
+        let b = front-size in
+        let d = ap length option-is in
+        omega (arith, simp length-append at a, simp length-append at b)
+
+  pub split-90 : Split 90 ts
+  split-90 = split 90 ts (omega (arith, p .one-90))

@@ -1,0 +1,175 @@
+-- Laws of tokens: appending, splitting at the option of a code, and taking options out.
+use mathlib.Core.Path.{_≡_, refl, sym, ap, ap₂, _∙_}
+use mathlib.Core.Logic.{_≢_}
+use Prim.Native.Nat.{ℕ, zero, suc, _+_, _-_, _≤_, _<_}
+use native.Mathlib.Nat.{add-assoc, zero-add, add-zero}
+use mathlib.Core.Bool.{Bool, true, false, cond}
+use mathlib.Core.List.{List, [], _∷_, _++_, append-assoc}
+use native.Mathlib.Omega.{arith}
+use lib.ListN.{length, length-append}
+use lib.Dec.{eqb}
+use borrow.Author.Tests.{ne-eqb, eq-eqb, eqb-true, eqb-false}
+use Rattle.dhcp_message.specs.Options.{Token, pad, opt, encode}
+use Rattle.dhcp_message.specs.Message.{count, optionOf, before, onlyPads, isLast}
+use Rattle.dhcp_message.specs.Image.{without, bodyZero, macZero}
+use Rattle.dhcp_message.specs.Numbers.{OnlyPads}
+
+pub encode-append : (p q : List Token) → encode (p ++ q) ≡ encode p ++ encode q
+encode-append [] q = refl
+encode-append (pad ∷ p) q = ap (λ (l : List ℕ). 0 ∷ l) (encode-append p q)
+encode-append (opt e b ∷ p) q = ap (λ (l : List ℕ). e ∷ length b ∷ l) (ap (λ (l : List ℕ). b ++ l) (encode-append p q) ∙ sym (append-assoc b (encode p) (encode q)))
+
+pub nil-right : (ts : List Token) → ts ++ [] ≡ ts
+nil-right [] = refl
+nil-right (t ∷ ts) = ap (λ (us : List Token). t ∷ us) (nil-right ts)
+
+pub pads-true : (ts : List Token) → onlyPads ts ≡ true → OnlyPads ts
+pads-true [] h = tt
+pads-true (pad ∷ ts) h = pads-true ts h
+pads-true (opt e b ∷ ts) h = let z : _≡_ {A = ℕ} 0 1 = cc in absurd (omega arith)
+
+pub pads-false : (ts : List Token) → onlyPads ts ≡ false → OnlyPads ts → ⊥
+pads-false [] h p = let z : _≡_ {A = ℕ} 0 1 = cc in omega arith
+pads-false (pad ∷ ts) h p = pads-false ts h p
+pads-false (opt e b ∷ ts) h p = p
+
+module _ (c : ℕ) where
+  pub count-append : (p q : List Token) → count c (p ++ q) ≡ count c p + count c q
+  count-append [] q = sym (zero-add (count c q))
+  count-append (pad ∷ p) q = count-append p q
+  count-append (opt e b ∷ p) q = ap (λ (n : ℕ). cond (eqb e c) 1 0 + n) (count-append p q) ∙ sym (add-assoc (cond (eqb e c) 1 0) (count c p) (count c q))
+
+  pub count-split : (p : List Token) (b : List ℕ) (q : List Token) → count c (p ++ (opt c b ∷ q)) ≡ count c p + (1 + count c q)
+  count-split p b q = count-append p (opt c b ∷ q) ∙ rw (eq-eqb c c refl)
+
+  -- no option of code c among tokens with one in front
+  pub no-hit : (e : ℕ) (ts : List Token) (x : Bool) → eqb e c ≡ x → cond x 1 0 + count c ts ≡ 0 → (eqb e c ≡ false) × (count c ts ≡ 0)
+  no-hit e ts true h z = absurd (omega arith)
+  no-hit e ts false h z = (h, omega arith)
+
+  -- in front of other tokens, tokens without an option of code c
+  module _ (q : List Token) where
+    pub option-behind : (p : List Token) → count c p ≡ 0 → optionOf c (p ++ q) ≡ optionOf c q
+    option-behind [] z = refl
+    option-behind (pad ∷ p) z = option-behind p z
+    option-behind (opt e b ∷ p) z = let h = no-hit e p (eqb e c) refl z in rw (h .0) (option-behind p (h .1))
+
+    pub before-behind : (p : List Token) → count c p ≡ 0 → before c (p ++ q) ≡ p ++ before c q
+    before-behind [] z = refl
+    before-behind (pad ∷ p) z = ap (λ (us : List Token). pad ∷ us) (before-behind p z)
+    before-behind (opt e b ∷ p) z = let h = no-hit e p (eqb e c) refl z in rw (h .0) (ap (λ (us : List Token). opt e b ∷ us) (before-behind p (h .1)))
+
+    pub last-behind : (p : List Token) → count c p ≡ 0 → isLast c (p ++ q) ≡ isLast c q
+    last-behind [] z = refl
+    last-behind (pad ∷ p) z = last-behind p z
+    last-behind (opt e b ∷ p) z = let h = no-hit e p (eqb e c) refl z in rw (h .0) (last-behind p (h .1))
+
+  -- no such option at all
+  module _ (ts : List Token) (z : count c ts ≡ 0) where
+    pub option-none : optionOf c ts ≡ []
+    option-none = ap (optionOf c) (sym (nil-right ts)) ∙ option-behind [] ts z
+
+    pub before-none : before c ts ≡ ts
+    before-none = ap (before c) (sym (nil-right ts)) ∙ before-behind [] ts z ∙ nil-right ts
+
+    pub last-none : isLast c ts ≡ true
+    last-none = ap (isLast c) (sym (nil-right ts)) ∙ last-behind [] ts z
+
+  -- the first one
+  module _ (p : List Token) (b : List ℕ) (q : List Token) (z : count c p ≡ 0) where
+    pub option-there : optionOf c (p ++ (opt c b ∷ q)) ≡ c ∷ length b ∷ b
+    option-there = option-behind (opt c b ∷ q) p z ∙ rw (eq-eqb c c refl)
+
+    pub before-there : before c (p ++ (opt c b ∷ q)) ≡ p
+    before-there = before-behind (opt c b ∷ q) p z ∙ rw (eq-eqb c c refl) (nil-right p)
+
+    pub last-there : isLast c (p ++ (opt c b ∷ q)) ≡ onlyPads q
+    last-there = last-behind (opt c b ∷ q) p z ∙ rw (eq-eqb c c refl)
+
+-- tokens split at the first option of code c
+pub record Split (c : ℕ) (ts : List Token) : Type 0 where
+  pub front : List Token
+  pub body : List ℕ
+  pub back : List Token
+  pub tokens : ts ≡ front ++ (opt c body ∷ back)
+  pub none-front : count c front ≡ 0
+
+module _ (c : ℕ) where
+  behind : (t : Token) (ts : List Token) → count c (t ∷ []) ≡ 0 → Split c ts → Split c (t ∷ ts)
+  behind t ts z s = record {
+    front = t ∷ s .front;
+    body = s .body;
+    back = s .back;
+    tokens = ap (λ (us : List Token). t ∷ us) (s .tokens);
+    none-front = count-append c (t ∷ []) (s .front) ∙ ap₂ (λ (m n : ℕ). m + n) z (s .none-front);
+  }
+
+  pub split : (ts : List Token) → 1 ≤ count c ts → Split c ts
+  split [] h = absurd (omega arith)
+  split (pad ∷ ts) h = behind pad ts refl (split ts h)
+  split (opt e b ∷ ts) h = by (eqb e c) refl (split ts) h
+    where
+      by : (x : Bool) → eqb e c ≡ x → (1 ≤ count c ts → Split c ts) → 1 ≤ cond x 1 0 + count c ts → Split c (opt e b ∷ ts)
+      by true q ih l = record { front = []; body = b; back = ts; tokens = ap (λ (n : ℕ). opt n b ∷ ts) (eqb-true e c q); none-front = refl }
+      by false q ih l = behind (opt e b) ts (rw q) (ih (omega arith))
+
+-- only pads: no option of any code
+pub pads-none : (c : ℕ) (ts : List Token) → onlyPads ts ≡ true → count c ts ≡ 0
+pads-none c [] h = refl
+pads-none c (pad ∷ ts) h = pads-none c ts h
+pads-none c (opt e b ∷ ts) h = let z : _≡_ {A = ℕ} 0 1 = cc in absurd (omega arith)
+
+-- ---- options taken out
+
+module _ (c : ℕ) where
+  pub without-none : (ts : List Token) → count c ts ≡ 0 → without c ts ≡ ts
+  without-none [] z = refl
+  without-none (pad ∷ ts) z = ap (λ (us : List Token). pad ∷ us) (without-none ts z)
+  without-none (opt e b ∷ ts) z =
+      let h = no-hit c e ts (eqb e c) refl z in
+      rw (h .0) (ap (λ (us : List Token). opt e b ∷ us) (without-none ts (h .1)))
+
+  pub without-append : (p q : List Token) → without c (p ++ q) ≡ without c p ++ without c q
+  without-append [] q = refl
+  without-append (pad ∷ p) q = ap (λ (us : List Token). pad ∷ us) (without-append p q)
+  without-append (opt e b ∷ p) q = by (without-append p q) (eqb e c)
+    where
+      by : without c (p ++ q) ≡ without c p ++ without c q → (x : Bool) → cond x (without c (p ++ q)) (opt e b ∷ without c (p ++ q)) ≡ cond x (without c p) (opt e b ∷ without c p) ++ without c q
+      by ih true = ih
+      by ih false = ap (λ (us : List Token). opt e b ∷ us) ih
+
+  -- one of them, whatever its body, taken out or not
+  pub without-one : (p : List Token) (b : List ℕ) (q : List Token) → without c (p ++ (opt c b ∷ q)) ≡ without c (p ++ q)
+  without-one p b q = without-append p (opt c b ∷ q) ∙ rw (eq-eqb c c refl) (sym (without-append p q))
+
+  pub count-without : (d : ℕ) → d ≢ c → (ts : List Token) → count d (without c ts) ≡ count d ts
+  count-without d n [] = refl
+  count-without d n (pad ∷ ts) = count-without d n ts
+  count-without d n (opt e b ∷ ts) = by (count-without d n ts) (eqb e c) refl
+    where
+      by : count d (without c ts) ≡ count d ts → (x : Bool) → eqb e c ≡ x → count d (cond x (without c ts) (opt e b ∷ without c ts)) ≡ cond (eqb e d) 1 0 + count d ts
+      by ih true h =
+          let k : e ≢ d = λ q. n (sym q ∙ eqb-true e c h) in
+          rw (ne-eqb _ _ k) (ih ∙ sym (zero-add (count d ts)))
+      by ih false h = ap (λ (k : ℕ). cond (eqb e d) 1 0 + k) ih
+
+  pub option-without : (d : ℕ) → d ≢ c → (ts : List Token) → optionOf d (without c ts) ≡ optionOf d ts
+  option-without d n [] = refl
+  option-without d n (pad ∷ ts) = option-without d n ts
+  option-without d n (opt e b ∷ ts) = by (option-without d n ts) (eqb e c) refl
+    where
+      by : optionOf d (without c ts) ≡ optionOf d ts → (x : Bool) → eqb e c ≡ x → optionOf d (cond x (without c ts) (opt e b ∷ without c ts)) ≡ cond (eqb e d) (e ∷ length b ∷ b) (optionOf d ts)
+      by ih true h =
+          let k : e ≢ d = λ q. n (sym q ∙ eqb-true e c h) in
+          rw (ne-eqb _ _ k) ih
+      by ih false h = ap (λ (x : List ℕ). cond (eqb e d) (e ∷ length b ∷ b) x) ih
+
+pub zero-append : (p q : List Token) → macZero (p ++ q) ≡ macZero p ++ macZero q
+zero-append [] q = refl
+zero-append (pad ∷ p) q = ap (λ (us : List Token). pad ∷ us) (zero-append p q)
+zero-append (opt e b ∷ p) q = ap (λ (us : List Token). opt e (bodyZero e b) ∷ us) (zero-append p q)
+
+pub zero-none : (ts : List Token) → count 90 ts ≡ 0 → macZero ts ≡ ts
+zero-none [] z = refl
+zero-none (pad ∷ ts) z = ap (λ (us : List Token). pad ∷ us) (zero-none ts z)
+zero-none (opt e b ∷ ts) z = let h = no-hit 90 e ts (eqb e 90) refl z in rw (h .0) (ap (λ (us : List Token). opt e b ∷ us) (zero-none ts (h .1)))

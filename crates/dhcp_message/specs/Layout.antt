@@ -1,0 +1,95 @@
+-- Where things stand in a DHCP message, and how large they are. RFC 2131 decides the header, RFC 2132 and 3046 the options,
+-- RFC 3118 option 90, document 01 ('The message') the limits. Every number is named here and nowhere else.
+use Prim.Native.Nat.{ℕ}
+use mathlib.Core.List.{List, [], _∷_}
+
+-- the sizes that a message may have
+abbrev pub messageLeast : ℕ
+messageLeast = 241
+
+abbrev pub messageMost : ℕ
+messageMost = 1472
+
+-- the fixed part: hops one byte, giaddr four, the magic cookie four; the options start behind it
+abbrev pub hopsAt : ℕ
+hopsAt = 3
+
+abbrev pub hopsSize : ℕ
+hopsSize = 1
+
+abbrev pub giaddrAt : ℕ
+giaddrAt = 24
+
+abbrev pub giaddrSize : ℕ
+giaddrSize = 4
+
+abbrev pub cookieAt : ℕ
+cookieAt = 236
+
+abbrev pub magicCookie : List ℕ
+magicCookie = 99 ∷ 130 ∷ 83 ∷ 99 ∷ []
+
+abbrev pub headerSize : ℕ
+headerSize = 240
+
+-- option codes
+abbrev pub padCode : ℕ
+padCode = 0
+
+abbrev pub relayCode : ℕ
+relayCode = 82
+
+abbrev pub authCode : ℕ
+authCode = 90
+
+abbrev pub endCode : ℕ
+endCode = 255
+
+-- what an option takes besides its body: code and length
+abbrev pub optionHead : ℕ
+optionHead = 2
+
+abbrev pub bodyMost : ℕ
+bodyMost = 255
+
+-- option 90 by offset from its code (RFC 3118, section 2): code 0, length 1, protocol 2, algorithm 3, replay method 4,
+-- counter 5 to 12, secret id 13 to 16, MAC 17 to 32
+abbrev pub lengthAt : ℕ
+lengthAt = 1
+
+abbrev pub methodAt : ℕ
+methodAt = 2
+
+abbrev pub counterAt : ℕ
+counterAt = 5
+
+abbrev pub secretIdAt : ℕ
+secretIdAt = 13
+
+abbrev pub macAt : ℕ
+macAt = 17
+
+abbrev pub macSize : ℕ
+macSize = 16
+
+-- counter and secret id together, and with the MAC: what a seal writes
+abbrev pub fieldsSize : ℕ
+fieldsSize = 12
+
+abbrev pub sealSize : ℕ
+sealSize = 28
+
+-- the whole of option 90 in full form
+abbrev pub fullSize : ℕ
+fullSize = 33
+
+-- its length byte in full form, and in request form, without id and MAC
+abbrev pub fullLength : ℕ
+fullLength = 31
+
+abbrev pub requestLength : ℕ
+requestLength = 11
+
+-- delayed authentication: protocol 1, algorithm 1 (HMAC-MD5), replay method 0 (a counter)
+abbrev pub delayed : List ℕ
+delayed = 1 ∷ 1 ∷ 0 ∷ []

@@ -1,0 +1,11 @@
+pub mod Layout
+pub mod Bytes
+pub mod Options
+pub mod Message
+pub mod Said
+pub mod Image
+pub mod Scan
+pub mod Numbers
+pub mod Relay
+pub mod Seal
+pub mod Bench

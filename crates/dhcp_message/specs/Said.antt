@@ -1,0 +1,68 @@
+-- What a message says to delayed authentication (RFC 3118, section 5): a refusal of 2 to 9, or counter, secret id and MAC. It is read off
+-- option 90's own bytes and does not depend on where that option stands. `formOf` adds where it stands, for the code that goes on.
+use Prim.Native.Nat.{ℕ}
+use mathlib.Core.Bool.{Bool, true, false, cond}
+use mathlib.Core.List.{List}
+use mathlib.Core.Option.{Option, none, some}
+use lib.ListN.{length, take, drop, getD}
+use lib.Dec.{eqb}
+use Rattle.refusal.specs.declared.Refusal.{Refusal}
+use Rattle.refusal.specs.declared.Refusal.the-variants.{OtherAuthentication, RequestForm}
+use Rattle.dhcp_message.specs.Layout.{relayCode, authCode, lengthAt, methodAt, counterAt, secretIdAt, macAt, macSize, fullLength, requestLength, delayed}
+use Rattle.dhcp_message.specs.Bytes.{starts, be32, be64}
+use Rattle.dhcp_message.specs.Options.{Token}
+use Rattle.dhcp_message.specs.Message.{optionOf, offsetOf, Checked, stopped, passed, checkedOf}
+use Rattle.dhcp_message.specs.declared.Places.{Places}
+use Rattle.dhcp_message.specs.declared.Auth.{Auth}
+use Rattle.dhcp_message.specs.declared.Form.{Form}
+use Rattle.dhcp_message.specs.declared.Form.the-variants.{Refused, Full}
+
+pub data Said : Type 0 where
+  refused : Refusal → Said
+  says : ℕ → ℕ → List ℕ → Said
+
+-- 8 and 9, by whether the length is that of the full form, or of the request form, and whether the method is delayed authentication
+abbrev pub saidFor : Bool → Bool → Bool → Said → Said
+saidFor true request method said = cond method said (refused OtherAuthentication)
+saidFor false true method said = cond method (refused RequestForm) (refused OtherAuthentication)
+saidFor false false method said = refused OtherAuthentication
+
+-- by the bytes of option 90
+unfoldable pub saidBy : List ℕ → Said
+saidBy x =
+    saidFor (eqb (getD x lengthAt 0) fullLength) (eqb (getD x lengthAt 0) requestLength) (starts delayed (drop methodAt x))
+    (says (be64 x counterAt) (be32 x secretIdAt) (take macSize (drop macAt x)))
+
+abbrev pub saidIn : Checked → Said
+saidIn (stopped r) = refused r
+saidIn (passed ts rest) = saidBy (optionOf authCode ts)
+
+unfoldable pub saidOf : List ℕ → Said
+saidOf m = saidIn (checkedOf m)
+
+-- the secret id that a check names: exactly where the message passes 2 to 9
+abbrev pub idOf : Said → Option ℕ
+idOf (refused r) = none
+idOf (says counter id mac) = some id
+
+unfoldable pub named : List ℕ → Option ℕ
+named m = idOf (saidOf m)
+
+-- where option 90 stands, and the stretch that option 82 takes: nothing, right before End, where there is none
+abbrev pub placesOf : List Token → Places
+placesOf ts = record { at = offsetOf authCode ts; cut = offsetOf relayCode ts; gap = length (optionOf relayCode ts) }
+
+abbrev pub authOf : Places → ℕ → ℕ → Auth
+authOf p counter id = record { at = p .at; counter = counter; id = id; cut = p .cut; gap = p .gap }
+
+abbrev pub formSaid : Places → Said → Form
+formSaid p (refused r) = Refused r
+formSaid p (says counter id mac) = Full (authOf p counter id)
+
+abbrev pub formIn : Checked → Form
+formIn (stopped r) = Refused r
+formIn (passed ts rest) = formSaid (placesOf ts) (saidBy (optionOf authCode ts))
+
+-- the lowest of 2 to 9 that applies, or what the full form says and where
+unfoldable pub formOf : List ℕ → Form
+formOf m = formIn (checkedOf m)
