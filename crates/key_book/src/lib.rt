@@ -114,15 +114,15 @@ pub fn is_sound(
 pub fn row_of(ids: &[u32], rows: usize, id: u32) -> Found
     ensures { λ r. ⌜ r ≡ foundOf (rowIn (now (ids .entry)) rows id) ⌝ }
 {
-    let mut k: usize = 0;
-    while k < ids.len() {
-        if rows <= k {
+    let mut row: usize = 0;
+    while row < ids.len() {
+        if rows <= row {
             return Found::Nothing;
         }
-        if ids[k] == id {
-            return Found::At(k);
+        if ids[row] == id {
+            return Found::At(row);
         }
-        k += 1;
+        row += 1;
     }
     Found::Nothing
 }

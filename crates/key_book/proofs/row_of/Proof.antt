@@ -8,10 +8,10 @@ use Rattle.key_book.proofs.row_of.Statement.{statement}
 use Rattle.key_book.proofs.row_of.Tie as tie
 
 abbrev Inv-loop : tie.InvT-loop
-Inv-loop ids rows id k₀ k = Searched ids rows id k
+Inv-loop ids rows id row₀ row = Searched ids rows id row
 
 abbrev μ-loop : tie.MeasureT-loop
-μ-loop ids rows id k₀ k = length ids - k
+μ-loop ids rows id row₀ row = length ids - row
 
 loop-holds : tie.Need-loop-holds Inv-loop μ-loop
 loop-holds c = search-start _ _ _
@@ -28,8 +28,8 @@ shared-slice-read-if2 c = omega arith
 returns-2 : tie.Need-returns-2 Inv-loop μ-loop
 returns-2 c = search-here _ _ _ _ (search needs) (search needs) (c .before .before .before .before .loop .inv) (search needs)
 
-add-k : tie.Need-add-k Inv-loop μ-loop
-add-k c = omega arith
+add-row : tie.Need-add-row Inv-loop μ-loop
+add-row c = omega arith
 
 loop-less : tie.Need-loop-less Inv-loop μ-loop
 loop-less c = omega arith
@@ -51,7 +51,7 @@ row-of-spec =
     mul-if2
     shared-slice-read-if2
     returns-2
-    add-k
+    add-row
     loop-less
     loop-again
     returns-3)
