@@ -164,7 +164,8 @@ module _ (b : Book) (s : Sound b) (k : ℕ) (h : k < b .rows) where
       let t = s .keys-to k h in
       both _ _ (lt-ltb k (length (b .lengths)) (w .in-lengths)) (le-leb (slotSize * k + getD (b .lengths) k 0) (length (b .store)) (omega arith))
 
-  key-is : keyOf b k ≡ take (getD (b .lengths) k 0) (drop (slotSize * k) (b .store))
+  -- the key of a row in use, as a part of the store
+  pub key-is : keyOf b k ≡ take (getD (b .lengths) k 0) (drop (slotSize * k) (b .store))
   unfolding keyIn
   key-is = rw fits
 

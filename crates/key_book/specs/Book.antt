@@ -5,7 +5,7 @@ use mathlib.Core.Path.{_≡_}
 use mathlib.Core.Bool.{Bool, true, cond, _&&_}
 use mathlib.Core.List.{List, [], _∷_}
 use mathlib.Core.Option.{Option, none, some}
-use Prim.Native.Nat.{ℕ, zero, suc, _+_, _-_, _*_, _≤_, _<_}
+use Prim.Native.Nat.{ℕ, zero, suc, _+_, _-_, _*_, _^_, _≤_, _<_}
 use lib.Dec.{leb, ltb, eqb}
 use lib.ListN.{length, getD, take, drop}
 use Rattle.key_book.specs.Limits.{rowsMost, slotSize, roomMost}
@@ -25,6 +25,14 @@ pub record Book : Type 0 where
 -- a book from what is lent, in the order in which every entry takes it
 abbrev pub bookOf : List ℕ → List ℕ → List ℕ → List ℕ → List ℕ → ℕ → Book
 bookOf ids lengths store received sent rows = record { ids = ids; lengths = lengths; store = store; received = received; sent = sent; rows = rows }
+
+-- what the types of the lent things give, apart from soundness, which reads no counter (past a list's end `getD` gives 0)
+pub record Lent (b : Book) : Type 0 where
+  pub id-fits : (k : ℕ) → getD (b .ids) k 0 < 2 ^ 32
+  pub length-fits : (k : ℕ) → getD (b .lengths) k 0 < 256
+  pub byte-fits : (k : ℕ) → getD (b .store) k 0 < 256
+  pub received-fits : (k : ℕ) → getD (b .received) k 0 < 2 ^ 64
+  pub sent-fits : (k : ℕ) → getD (b .sent) k 0 < 2 ^ 64
 
 -- all lists have room for the same number of rows, which is at most `roomMost`
 pub record Sized (b : Book) : Type 0 where
