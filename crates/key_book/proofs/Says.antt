@@ -156,23 +156,21 @@ rows-differ b s j k hj hk e = on (ltb j k) refl (ltb k j) refl
     on false p true q = absurd (omega (arith, s .ids-ascend k j (ltb-true k j q) hj))
     on false p false q = omega (arith, ltb-false j k p, ltb-false k j q)
 
-module _ (b : Book) (s : Sound b) (k : ℕ) (h : k < b .rows) where
+module _ (b : Book) (k : ℕ) (w : Within b k) (t : getD (b .lengths) k 0 ≤ slotSize) where
   fits : keyFits (b .store) (b .lengths) k ≡ true
   unfolding keyFits
   fits =
-      let w = rows-within b s k h in
-      let t = s .keys-to k h in
+      let i = w .in-store in
       both _ _ (lt-ltb k (length (b .lengths)) (w .in-lengths)) (le-leb (slotSize * k + getD (b .lengths) k 0) (length (b .store)) (omega arith))
 
-  -- the key of a row in use, as a part of the store
+  -- the key of a row within the book, as a part of the store
   pub key-is : keyOf b k ≡ take (getD (b .lengths) k 0) (drop (slotSize * k) (b .store))
   unfolding keyIn
   key-is = rw fits
 
   key-long : length (keyOf b k) ≡ getD (b .lengths) k 0
   key-long =
-      let w = rows-within b s k h in
-      let t = s .keys-to k h in
+      let i = w .in-store in
       ap length key-is ∙ length-take-le (getD (b .lengths) k 0) (drop (slotSize * k) (b .store)) (rw length-drop (omega arith))
 
   key-byte : (i : ℕ) → i < getD (b .lengths) k 0 → getD (keyOf b k) i 0 ≡ getD (b .store) (slotSize * k + i) 0
@@ -184,15 +182,16 @@ module _ (b : Book) (s : Sound b) (k : ℕ) (h : k < b .rows) where
 
 pub key-says : KeySays
 key-says b s k h =
-    let e = key-long b s k h in
+    let w = rows-within b s k h in
     let f = s .keys-from k h in
     let t = s .keys-to k h in
+    let e = key-long b k w t in
     record {
       size = e;
       from-one = omega arith;
       to-slot = omega arith;
-      start = start-is b s k h;
-      bytes = λ i l. key-byte b s k h i (omega arith);
+      start = start-is b k w t;
+      bytes = λ i l. key-byte b k w t i (omega arith);
     }
 
 pub sound-depends : SoundDepends
@@ -210,8 +209,10 @@ row-depends b c id e = ap (placeFrom id 0) e
 
 pub key-depends : KeyDepends
 key-depends b c s t k a =
-    let lb = key-long b s k (a .used) in
-    let lc = key-long c t k (a .used-too) in
+    let kb = key-says b s k (a .used) in
+    let kc = key-says c t k (a .used-too) in
+    let lb = kb .size in
+    let lc = kc .size in
     let e = a .same-size in
     ext-getD 0 (keyOf b k) (keyOf c k) (omega arith)
-    (λ i h. key-byte b s k (a .used) i (omega arith) ∙ a .same-bytes i (omega arith) ∙ sym (key-byte c t k (a .used-too) i (omega arith)))
+    (λ i h. kb .bytes i h ∙ a .same-bytes i (omega arith) ∙ sym (kc .bytes i (omega arith)))
