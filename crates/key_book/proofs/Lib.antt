@@ -1,0 +1,5 @@
+mod Below
+mod Steps
+pub mod Answers
+pub mod Says
+mod Computed

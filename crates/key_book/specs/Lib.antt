@@ -1,0 +1,4 @@
+pub mod Limits
+pub mod Book
+pub mod Laws
+pub mod Examples

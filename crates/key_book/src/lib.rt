@@ -1,0 +1,147 @@
+// The key book as the host lends it: whether it is sound, the row of a secret id, the key of a row. Document 01, 'The key book'.
+// Not here: the counters' meaning (delayed_auth) and the card on which a book is stored (book_card).
+//
+// A book has room for n rows: ids, key lengths and two rows of counters have n elements, and the key store a slot of SLOT_SIZE bytes per row.
+// Only the first `rows` of them are in use. Slot bytes past a key, and rows from `rows` on, affect no answer.
+// A new row has received 0, and a check takes only a counter above the received one: so counter 0 is never accepted.
+ghost use mathlib.Core.Path.{_≡_};
+ghost use Prim.Native.Nat.{_≤_};
+ghost use lib.ListN.{length};
+ghost use Rattle.key_book.specs.Book.{bookOf, sized, ascending, keySizes, sound, rowIn, foundOf, keyIn, keyStart, movedOn};
+
+// The most rows in use.
+pub const ROWS_MOST: usize = 64;
+// The bytes of a row's slot in the key store, and so of the longest key.
+pub const SLOT_SIZE: usize = 64;
+// The most rows that there may be room for.
+pub const ROOM_MOST: usize = 1024;
+
+// Where a secret id stands.
+pub enum Found {
+    // Its row.
+    At(usize),
+    // No row in use has it.
+    Nothing,
+}
+
+// Whether all lists have room for the same number of rows, and for no more than ROOM_MOST.
+pub fn sizes_agree(
+    ids: &[u32],
+    lengths: &[u8],
+    store: &[u8],
+    received: &[u64],
+    sent: &[u64],
+) -> bool
+    ensures { λ r. ⌜ r ≡ sized (bookOf (now (ids .entry)) (now (lengths .entry)) (now (store .entry)) (now (received .entry)) (now (sent .entry)) 0) ⌝ }
+{
+    let room = ids.len();
+    if ROOM_MOST < room {
+        return false;
+    }
+    if lengths.len() != room {
+        return false;
+    }
+    if store.len() != SLOT_SIZE * room {
+        return false;
+    }
+    if received.len() != room {
+        return false;
+    }
+    sent.len() == room
+}
+
+// Whether each of the first ids is below the next of them.
+fn ids_ascend(ids: &[u32], rows: usize) -> bool
+    requires { ⌜ rows ≤ length (now ids) ⌝ }
+    ensures { λ r. ⌜ r ≡ ascending (now (ids .entry)) rows ⌝ }
+{
+    let mut k: usize = 1;
+    while k < rows {
+        if ids[k] <= ids[k - 1] {
+            return false;
+        }
+        k += 1;
+    }
+    true
+}
+
+// Whether each of the first key lengths is 1 to SLOT_SIZE.
+fn keys_sized(lengths: &[u8], rows: usize) -> bool
+    requires { ⌜ rows ≤ length (now lengths) ⌝ }
+    ensures { λ r. ⌜ r ≡ keySizes (now (lengths .entry)) rows ⌝ }
+{
+    let mut k: usize = 0;
+    while k < rows {
+        let size = lengths[k] as usize;
+        if size < 1 {
+            return false;
+        }
+        if SLOT_SIZE < size {
+            return false;
+        }
+        k += 1;
+    }
+    true
+}
+
+// Whether the lent book is sound. It reads the sizes, the row count, and the ids and key lengths of the rows in use.
+pub fn is_sound(
+    ids: &[u32],
+    lengths: &[u8],
+    store: &[u8],
+    received: &[u64],
+    sent: &[u64],
+    rows: usize,
+) -> bool
+    ensures { λ r. ⌜ r ≡ sound (bookOf (now (ids .entry)) (now (lengths .entry)) (now (store .entry)) (now (received .entry)) (now (sent .entry)) rows) ⌝ }
+{
+    if !sizes_agree(ids, lengths, store, received, sent) {
+        return false;
+    }
+    if ids.len() < rows {
+        return false;
+    }
+    if ROWS_MOST < rows {
+        return false;
+    }
+    if !ids_ascend(ids, rows) {
+        return false;
+    }
+    keys_sized(lengths, rows)
+}
+
+// The first row in use that has this id. Where fewer ids are lent than rows are said to be in use, all of them are looked at.
+pub fn row_of(ids: &[u32], rows: usize, id: u32) -> Found
+    ensures { λ r. ⌜ r ≡ foundOf (rowIn (now (ids .entry)) rows id) ⌝ }
+{
+    let mut row: usize = 0;
+    while row < ids.len() {
+        if rows <= row {
+            return Found::Nothing;
+        }
+        if ids[row] == id {
+            return Found::At(row);
+        }
+        row += 1;
+    }
+    Found::Nothing
+}
+
+// The key of a row, as the part of the store itself. Where it does not fit (no sound book has such a row in use), the empty part at the store's start.
+pub fn key_of<'k, 'l>(store: &'k [u8], lengths: &'l [u8], row: usize) -> &'k [u8]
+    ensures content { λ r. ⌜ now r ≡ keyIn (now (store .entry)) (now (lengths .entry)) row ⌝ }
+    ensures place { λ r. ⌜ r .ptr ≡ movedOn (store .entry .ptr) (keyStart (now (store .entry)) (now (lengths .entry)) row) ⌝ }
+{
+    if lengths.len() <= row {
+        return &store[..0];
+    }
+    if store.len() / SLOT_SIZE < row {
+        return &store[..0];
+    }
+    let start = SLOT_SIZE * row;
+    let size = lengths[row] as usize;
+    if store.len() - start < size {
+        return &store[..0];
+    }
+    &store[start..start + size]
+}
