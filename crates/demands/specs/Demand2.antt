@@ -1,0 +1,25 @@
+-- Demand 2 (document 00): what is accepted, what is sealed, and that what we seal passes. Its one proof is proofs/Demand2.antt.
+use Prim.Native.Nat.{ℕ, _^_, _<_}
+use mathlib.Core.Path.{_≡_}
+use mathlib.Core.Logic.{_↔_}
+use mathlib.Core.List.{List}
+use mathlib.Core.Option.{some}
+use lib.ListN.{getD, set}
+use Rattle.key_book.specs.Book.{Book, Lent, Sound, rowOf, keyOf}
+use Rattle.delayed_auth.specs.declared.Verdict.the-variants.{Accepted}
+use Rattle.delayed_auth.specs.Check.{checkOf, receivedAfter}
+use Rattle.delayed_auth.specs.Seal.{sealed, sealOf, sentAfter}
+use Rattle.demands.specs.Accepts.{Accepts, Seals}
+
+pub record Demand2 : Type 0 where
+  -- on a sound book a message is accepted exactly when form, secret, counter and HMAC are right
+  pub accepted : (b : Book) → Sound b → (m : List ℕ) (k c : ℕ) → (checkOf b m ≡ Accepted k c) ↔ Accepts b m k c
+  -- its counter is then stored: the received counters are the old ones with c at k
+  pub stored : (b : Book) → Sound b → (m : List ℕ) (k c : ℕ) → Accepts b m k c → receivedAfter (checkOf b m) (b .received) ≡ set (b .received) k c
+  -- on a sound book a message is sealed exactly when form, secret and counter allow it, and then as `Seals` says
+  pub sealed-when : (b : Book) → Sound b → Lent b → (id : ℕ) (m : List ℕ) (k c : ℕ) (n : List ℕ) → (sealOf b id m ≡ sealed k c n) ↔ Seals b id m k c n
+  -- its counter is then stored
+  pub sent : (b : Book) → Sound b → Lent b → (id : ℕ) (m : List ℕ) (k c : ℕ) (n : List ℕ) → Seals b id m k c n → sentAfter (sealOf b id m) (b .sent) ≡ set (b .sent) k c
+  -- a message we seal passes on any sound book with that key under that id and a lower stored counter
+  pub passes : (b d : Book) → Sound b → Lent b → Sound d → (id : ℕ) → id < 2 ^ 32 → (m : List ℕ) (k c : ℕ) (n : List ℕ) → sealOf b id m ≡ sealed k c n
+      → (j : ℕ) → rowOf d id ≡ some j → keyOf d j ≡ keyOf b k → getD (d .received) j 0 < c → Accepts d n j c
