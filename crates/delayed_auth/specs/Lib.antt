@@ -1,3 +1,4 @@
 pub mod Check
 pub mod Key
 pub mod Seal
+pub mod Plan

@@ -9,3 +9,4 @@ pub mod Seals
 pub mod Relays
 pub mod Lowest
 pub mod Examples
+pub mod Agreeing

@@ -1,0 +1,31 @@
+-- `delayed_auth::key_number` meets its contract: the number of what `named_row` answers.
+use mathlib.Core.Path.{sym, ap, _∙_}
+use Rattle.delayed_auth.specs.Key.{keyNumber}
+use borrow.Author.Needs.{needs}
+use Rattle.delayed_auth.proofs.key_number.Statement.{statement}
+use Rattle.delayed_auth.proofs.key_number.Tie as tie
+use Rattle.delayed_auth.proofs.named_row.Reads as named-row-reads
+use Rattle.refusal.proofs.number.Reads as number-reads
+
+named-row-requires : tie.Need-named-row-requires
+named-row-requires c κs = search needs
+
+enum-told : tie.Need-enum-told
+enum-told c = search needs
+
+enum-known-key : tie.Need-enum-known-key
+enum-known-key c = search needs
+
+number-requires : tie.Need-number-requires
+number-requires c κs = search needs
+
+returns : tie.Need-returns
+returns c = ap keyNumber (sym (c .enum-told .given .1) ∙ c .before .before .named-row .ensures)
+
+returns-2 : tie.Need-returns-2
+returns-2 c = c .number .ensures ∙ ap keyNumber (sym (c .before .before .key .given .1) ∙ c .before .before .before .before .named-row .ensures)
+
+pub key-number-spec : {M : Type 1} → statement M
+key-number-spec =
+    tie.close
+    (tie.spec named-row-requires enum-told enum-known-key number-requires returns returns-2)
