@@ -219,7 +219,7 @@ fully m a e = by (checkedOf m) refl e
     by (passed ts rest) h e = fully-passed m a ts rest h e
 
 -- a message that passes and says something is in full form
-pub form-says : (m : List ℕ) (ts : List Token) (rest : List ℕ) (counter id : ℕ) (mac : List ℕ) → Passing m ts rest → checkedOf m ≡ passed ts rest → saidBy (optionOf 90 ts) ≡ says counter id mac
+pub full-says : (m : List ℕ) (ts : List Token) (rest : List ℕ) (counter id : ℕ) (mac : List ℕ) → Passing m ts rest → checkedOf m ≡ passed ts rest → saidBy (optionOf 90 ts) ≡ says counter id mac
     → formOf m ≡ Full (authOf (placesOf ts) counter id)
 unfolding formOf
-form-says m ts rest counter id mac p h s = ap formIn h ∙ ap (formSaid (placesOf ts)) s
+full-says m ts rest counter id mac p h s = ap formIn h ∙ ap (formSaid (placesOf ts)) s

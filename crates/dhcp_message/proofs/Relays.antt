@@ -179,7 +179,7 @@ module _ (m n : List ℕ) (r : Permitted m n) where
   relay-once : Kept m n
   unfolding named
   relay-once = record {
-    passes = λ h. passing-27 n us (r .rest) passing-after;
+    still-passes = λ h. passing-27 n us (r .rest) passing-after;
     option = auth-kept;
     said = said-kept;
     name = ap idOf said-kept;
@@ -190,12 +190,12 @@ module _ (m n : List ℕ) (r : Permitted m n) where
 -- ---- any number of them
 
 relay-often : (m n : List ℕ) → Relayed m n → Kept m n
-relay-often m n (unchanged) = record { passes = λ h. h; option = refl; said = refl; name = refl; image = refl; bytes = λ b. b }
+relay-often m n (unchanged) = record { still-passes = λ h. h; option = refl; said = refl; name = refl; image = refl; bytes = λ b. b }
 relay-often before after (changed {l} {m} {n} c more) =
     let a = relay-once l m c in
     let b = relay-often m n more in
     record {
-      passes = λ h. b .passes (a .passes h);
+      still-passes = λ h. b .still-passes (a .still-passes h);
       option = b .option ∙ a .option;
       said = b .said ∙ a .said;
       name = b .name ∙ a .name;
