@@ -1,25 +1,25 @@
 -- The covered image: what `cover` writes for a message in full form is its image. Option 82 stands behind option 90, so taking it out moves
 -- nothing before it.
-use mathlib.Core.Path.{_≡_, refl, sym, ap, ap₂, _∙_, subst}
+use mathlib.Core.Path.{_≡_, refl, sym, ap, ap₂, _∙_}
 use mathlib.Core.Logic.{_≢_}
 use Prim.Native.Nat.{ℕ, zero, suc, _+_, _-_, _≤_, _<_}
-use native.Mathlib.Nat.{add-assoc, add-zero, zero-add}
+use native.Mathlib.Nat.{add-zero, zero-add}
 use native.Mathlib.Omega.{arith}
 use mathlib.Core.Bool.{Bool, true, false, cond, not, _&&_}
 use mathlib.Core.List.{List, [], _∷_, _++_, append-assoc}
-use lib.ListN.{length, take, drop, getD, length-append, length-take, length-drop, length-replicate, take-append-drop}
+use lib.ListN.{length, take, drop, getD, length-append, length-drop, take-append-drop}
 use lib.Seq.{length-take-le, take-at, drop-at, take-all, drop-append-add, drop-drop}
 use lib.Dec.{leb, eqb}
 use borrow.Author.Tests.{le-leb, lt-leb, leb-true, not-true, not-false}
 use Rattle.dhcp_message.specs.Bytes.{written, zeros}
-use Rattle.dhcp_message.specs.Options.{Token, pad, opt, Parsed, cut, parsed, encode, decode}
+use Rattle.dhcp_message.specs.Options.{Token, pad, opt, cut, encode}
 use Rattle.dhcp_message.specs.Message.{count, optionOf, before, offsetOf, onlyPads, isLast}
-use Rattle.dhcp_message.specs.Said.{placesOf, formOf}
-use Rattle.dhcp_message.specs.Image.{without, bodyZero, macZero, headWith, headZero, imageIn, imageOf, coverFits, coverBytes, coverSize, coverLeft}
+use Rattle.dhcp_message.specs.Said.{formOf}
+use Rattle.dhcp_message.specs.Image.{without, macZero, headWith, headZero, imageIn, imageOf, coverFits, coverBytes, coverSize, coverLeft}
 use Rattle.dhcp_message.specs.declared.Auth.{Auth}
 use Rattle.dhcp_message.specs.declared.Form.the-variants.{Full}
 use Rattle.dhcp_message.proofs.Lists.{and-true, length-written, written-left, written-body}
-use Rattle.dhcp_message.proofs.Tokens.{Split, split, encode-append, count-append, count-split, option-none, before-none, last-there, no-hit, pads-none, without-none, without-append, without-one, count-without, zero-append, zero-none}
+use Rattle.dhcp_message.proofs.Tokens.{Split, split, encode-append, count-append, count-split, option-none, before-none, without-none, without-append, without-one, count-without, zero-append, zero-none}
 use Rattle.dhcp_message.proofs.Passing.{Passing, whole, header-size, around, front-size, option-is, inside, split-90}
 use Rattle.dhcp_message.proofs.Forms.{Fully, fully, option-length}
 

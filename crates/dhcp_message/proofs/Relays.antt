@@ -2,22 +2,21 @@
 -- 82 is the same tokens, and hops and giaddr are zero in the image.
 use mathlib.Core.Path.{_≡_, refl, sym, ap, ap₂, _∙_, subst}
 use mathlib.Core.Logic.{_≢_}
-use Prim.Native.Nat.{ℕ, zero, suc, _+_, _≤_, _<_}
+use Prim.Native.Nat.{ℕ, _+_, _≤_, _<_}
 use native.Mathlib.Omega.{arith}
-use mathlib.Core.Bool.{Bool, true, false, cond}
+use mathlib.Core.Bool.{true}
 use mathlib.Core.List.{List, [], _∷_, _++_}
-use lib.ListN.{length, take, drop, length-append}
-use lib.Seq.{drop-append-le}
+use lib.ListN.{length, take, drop}
 use Rattle.dhcp_message.specs.Layout.{magicCookie}
 use Rattle.dhcp_message.specs.Bytes.{Bytes, written, zeros, starts}
-use Rattle.dhcp_message.specs.Options.{Token, pad, opt, Parsed, parsed, encode, decode, Reads}
-use Rattle.dhcp_message.specs.Message.{count, optionOf, onlyPads, isLast, checkedOf, passed, Passes27, authIn, authOptionOf}
-use Rattle.dhcp_message.specs.Said.{Said, saidBy, saidIn, saidOf, idOf, named}
-use Rattle.dhcp_message.specs.Image.{without, macZero, headWith, headZero, imageIn, imageOf}
-use Rattle.dhcp_message.specs.Relay.{RelayBody, RelayChange, kept, added, replaced, removed, Permitted, Relayed, unchanged, changed, Kept, RelayKeeps}
-use Rattle.dhcp_message.proofs.Lists.{length-written, written-over, written-apart, drop-written, bytes-append, bytes-left, bytes-right, bytes-take, bytes-drop, bytes-written}
+use Rattle.dhcp_message.specs.Options.{Token, pad, opt, Parsed, encode}
+use Rattle.dhcp_message.specs.Message.{count, optionOf, isLast, authIn, authOptionOf}
+use Rattle.dhcp_message.specs.Said.{saidBy, saidIn, saidOf, idOf, named}
+use Rattle.dhcp_message.specs.Image.{without, macZero, headWith, imageIn, imageOf}
+use Rattle.dhcp_message.specs.Relay.{RelayChange, kept, added, replaced, removed, Permitted, Relayed, unchanged, changed, Kept, RelayKeeps}
+use Rattle.dhcp_message.proofs.Lists.{length-written, written-over, written-apart, drop-written, bytes-append, bytes-left, bytes-right, bytes-written}
 use Rattle.dhcp_message.proofs.Decoding.{Codes, reads-decode}
-use Rattle.dhcp_message.proofs.Tokens.{encode-append, nil-right, count-append, count-split, last-there, last-behind, last-none, without-append, without-one, count-without, option-without}
+use Rattle.dhcp_message.proofs.Tokens.{encode-append, nil-right, count-append, count-split, last-there, last-none, without-append, without-one, count-without, option-without}
 use Rattle.dhcp_message.proofs.Passing.{Passing, passing, checks, passing-27, tokens-of, take-built, passing-built, header-size, header-magic, codes, whole}
 use Rattle.dhcp_message.proofs.Images.{head-length}
 

@@ -2,7 +2,7 @@
 -- image does not depend on the MAC. On tokens, one option 90 has another body of the same length.
 use mathlib.Core.Path.{_≡_, refl, sym, ap, ap₂, _∙_, subst}
 use mathlib.Core.Logic.{_≢_}
-use Prim.Native.Nat.{ℕ, zero, suc, _+_, _-_, _/_, _%_, _^_, _≤_, _<_}
+use Prim.Native.Nat.{ℕ, suc, _+_, _/_, _%_, _^_, _≤_, _<_}
 use native.Mathlib.Nat.{add-assoc, add-zero, zero-add}
 use native.Mathlib.Omega.{arith}
 use mathlib.Core.Bool.{Bool, true, false, cond}
@@ -14,16 +14,16 @@ use borrow.Author.Tests.{eq-eqb, ne-eqb}
 use Rattle.refusal.specs.declared.Refusal.{Refusal}
 use Rattle.dhcp_message.specs.Layout.{delayed}
 use Rattle.dhcp_message.specs.Bytes.{Bytes, written, zeros, starts, be32, be64, bytes32, bytes64}
-use Rattle.dhcp_message.specs.Options.{Token, pad, opt, Parsed, parsed, encode, decode}
-use Rattle.dhcp_message.specs.Message.{count, optionOf, before, offsetOf, onlyPads, isLast, Passes27, Checked, stopped, passed, checkedOf}
-use Rattle.dhcp_message.specs.Said.{Said, refused, says, saidFor, saidBy, saidIn, saidOf, idOf, named, placesOf, authOf, formSaid, formIn, formOf, formSays, formNames, FormSays}
+use Rattle.dhcp_message.specs.Options.{Token, pad, opt, Parsed, encode}
+use Rattle.dhcp_message.specs.Message.{count, optionOf, before, offsetOf, onlyPads, isLast, Checked, stopped, passed, checkedOf}
+use Rattle.dhcp_message.specs.Said.{Said, refused, says, saidBy, saidIn, saidOf, idOf, named, placesOf, authOf, formSaid, formIn, formOf, formSays, formNames, FormSays}
 use Rattle.dhcp_message.specs.Image.{without, macZero, headZero, imageIn, imageOf, coverFits, coverBytes, coverSize, coverLeft}
 use Rattle.dhcp_message.specs.Seal.{fields, fieldsPut, macPut, sealedWith, withFields, FullForm, Sealed, SealLaws}
 use Rattle.dhcp_message.specs.declared.Places.{Places}
 use Rattle.dhcp_message.specs.declared.Auth.{Auth}
 use Rattle.dhcp_message.specs.declared.Form.{Form}
 use Rattle.dhcp_message.specs.declared.Form.the-variants.{Refused, Full}
-use Rattle.dhcp_message.proofs.Lists.{length-written, written-over, written-join, written-part, written-same, drop-written, written-body, starts-append, at-32, at-64, below-32, below-64, read-32, read-64, bytes-right, bytes-left, bytes-drop}
+use Rattle.dhcp_message.proofs.Lists.{length-written, written-over, written-join, written-part, written-same, drop-written, written-body, starts-append, at-32, at-64, below-32, below-64, read-32, read-64, bytes-left, bytes-drop}
 use Rattle.dhcp_message.proofs.Decoding.{Codes}
 use Rattle.dhcp_message.proofs.Tokens.{Split, encode-append, option-there, without-append, zero-append}
 use Rattle.dhcp_message.proofs.Passing.{Passing, passing, checks, passing-27, passing-built, take-built, header-size, header-magic, codes, around, front-size, option-is, from-option, split-90}

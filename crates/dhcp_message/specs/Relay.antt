@@ -1,5 +1,5 @@
 -- A permitted relay change (document 01; RFC 3118, section 3, names what a relay agent may alter), any number of them, and what they keep.
-use Prim.Native.Nat.{ℕ, _+_, _≤_}
+use Prim.Native.Nat.{ℕ, _≤_}
 use mathlib.Core.Path.{_≡_}
 use mathlib.Core.List.{List, [], _∷_, _++_}
 use lib.ListN.{length, take, drop}

@@ -15,7 +15,7 @@ ghost use Rattle.dhcp_message.specs.Seal.{fieldsPut, macPut};
 // The sizes that a message may have.
 const MESSAGE_LEAST: usize = 241;
 
-const MESSAGE_MOST: usize = 1472;
+pub const MESSAGE_MOST: usize = 1472;
 
 // The fixed part (RFC 2131, section 2): hops, giaddr and the magic cookie by offset; the options start behind it.
 const HOPS_AT: usize = 3;
@@ -53,15 +53,15 @@ const ALGORITHM_AT: usize = 3;
 
 const REPLAY_METHOD_AT: usize = 4;
 
-const COUNTER_AT: usize = 5;
+pub const COUNTER_AT: usize = 5;
 
 const SECRET_ID_AT: usize = 13;
 
-const MAC_AT: usize = 17;
+pub const MAC_AT: usize = 17;
 
-const MAC_SIZE: usize = 16;
+pub const MAC_SIZE: usize = 16;
 
-const FULL_SIZE: usize = 33;
+pub const FULL_SIZE: usize = 33;
 
 // The length byte of the full form and of the request form.
 const FULL_LENGTH: u8 = 31;
@@ -469,7 +469,7 @@ pub fn put_fields(part: &mut [u8], counter: u64, id: u32)
 }
 
 // Writes the MAC there.
-pub fn put_mac(part: &mut [u8], mac: [u8; 16])
+pub fn put_mac(part: &mut [u8], mac: [u8; MAC_SIZE])
     ensures { λ _. ⌜ now (part .exit) ≡ macPut (now (part .entry)) mac ⌝ }
 {
     if part.len() != SEAL_SIZE {
