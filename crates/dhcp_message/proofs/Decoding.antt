@@ -1,7 +1,7 @@
 -- `decode` and `encode` undo each other. After `decode-cons` nothing unfolds `decodeAt`.
 use mathlib.Core.Path.{_≡_, refl, sym, ap, _∙_, fun-ext, subst}
-use mathlib.Core.Logic.{_≢_, _↔_}
-use Prim.Native.Nat.{ℕ, zero, suc, _+_, _≤_, _<_}
+use mathlib.Core.Logic.{_≢_}
+use Prim.Native.Nat.{ℕ, zero, suc, _≤_, _<_}
 use mathlib.Core.Bool.{Bool, true, false}
 use mathlib.Core.List.{List, [], _∷_, _++_, append-assoc}
 use native.Mathlib.Omega.{arith}
@@ -10,7 +10,7 @@ use lib.Seq.{length-take-le, take-at, drop-at}
 use lib.Dec.{leb, eqb}
 use borrow.Author.Tests.{le-leb, ne-eqb, leb-true, leb-false, eqb-true, eqb-false}
 use Rattle.dhcp_message.specs.Bytes.{Bytes}
-use Rattle.dhcp_message.specs.Options.{Token, pad, opt, Parsed, cut, parsed, encode, WellFormed, Reads, Front, nothing, end, token, body, option, code, front, onto, step, decodeAt, decode, RoundTrips}
+use Rattle.dhcp_message.specs.Options.{Token, pad, opt, Parsed, cut, parsed, encode, WellFormed, Reads, body, option, code, front, onto, step, decodeAt, decode, RoundTrips}
 use Rattle.dhcp_message.proofs.Lists.{bytes-right}
 
 -- bytes passed over are dropped

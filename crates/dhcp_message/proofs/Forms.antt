@@ -2,31 +2,29 @@
 -- reads option 90's own bytes.
 use mathlib.Core.Path.{_≡_, refl, sym, ap, ap₂, _∙_, subst}
 use mathlib.Core.Logic.{_≢_}
-use Prim.Native.Nat.{ℕ, zero, suc, _+_, _-_, _*_, _^_, _≤_, _<_}
-use native.Mathlib.Nat.{add-assoc, zero-add}
+use Prim.Native.Nat.{ℕ, _+_, _≤_, _<_}
+use native.Mathlib.Nat.{add-assoc}
 use native.Mathlib.Omega.{arith}
-use mathlib.Core.Bool.{Bool, true, false, cond, _&&_}
-use mathlib.Core.List.{List, [], _∷_, _++_}
-use lib.ListN.{length, take, drop, getD, length-append, length-drop, List·getD-append}
+use mathlib.Core.Bool.{Bool, true, false}
+use mathlib.Core.List.{List, [], _++_}
+use lib.ListN.{length, take, drop, getD, length-drop, List·getD-append}
 use lib.Seq.{drop-drop, getD-drop, take-append-le, drop-append-le}
 use lib.Dec.{eqb}
 use borrow.Author.Tests.{ne-eqb, eq-eqb, eqb-true}
 use Rattle.refusal.specs.declared.Refusal.{Refusal}
 use Rattle.refusal.specs.declared.Refusal.the-variants.{OtherAuthentication, RequestForm}
-use Rattle.dhcp_message.specs.Layout.{magicCookie, delayed}
-use Rattle.dhcp_message.specs.Bytes.{Bytes, starts, be16, be32, be64}
-use Rattle.dhcp_message.specs.Options.{Token, encode}
-use Rattle.dhcp_message.specs.Message.{count, optionOf, offsetOf, Checked, stopped, passed, checkedOf}
-use Rattle.dhcp_message.specs.Said.{Said, refused, says, saidFor, saidBy, saidIn, saidOf, placesOf, authOf, formSaid, formIn, formOf}
+use Rattle.dhcp_message.specs.Layout.{delayed}
+use Rattle.dhcp_message.specs.Bytes.{starts, be32, be64}
+use Rattle.dhcp_message.specs.Options.{Token}
+use Rattle.dhcp_message.specs.Message.{optionOf, offsetOf, Checked, stopped, passed, checkedOf}
+use Rattle.dhcp_message.specs.Said.{Said, says, saidFor, saidBy, placesOf, authOf, formSaid, formIn, formOf}
 use Rattle.dhcp_message.specs.Scan.{shapeIn, shapeOf}
 use Rattle.dhcp_message.specs.declared.Places.{Places}
 use Rattle.dhcp_message.specs.declared.Auth.{Auth}
 use Rattle.dhcp_message.specs.declared.Form.{Form}
 use Rattle.dhcp_message.specs.declared.Form.the-variants.{Refused, Full}
-use Rattle.dhcp_message.specs.declared.Shape.{Shape}
 use Rattle.dhcp_message.specs.declared.Shape.the-variants.{Refused as SRefused, Passed as SPassed}
-use Rattle.dhcp_message.proofs.Lists.{starts-byte, starts-append, at-32, at-64, below-32, below-64, bytes-drop}
-use Rattle.dhcp_message.proofs.Tokens.{Split}
+use Rattle.dhcp_message.proofs.Lists.{starts-append, at-32, at-64}
 use Rattle.dhcp_message.proofs.Passing.{Passing, passing, option-is, from-option, inside, split-90}
 
 -- ---- what option 90 says, read off a message
@@ -219,7 +217,7 @@ fully m a e = by (checkedOf m) refl e
     by (passed ts rest) h e = fully-passed m a ts rest h e
 
 -- a message that passes and says something is in full form
-pub form-says : (m : List ℕ) (ts : List Token) (rest : List ℕ) (counter id : ℕ) (mac : List ℕ) → Passing m ts rest → checkedOf m ≡ passed ts rest → saidBy (optionOf 90 ts) ≡ says counter id mac
+pub full-says : (m : List ℕ) (ts : List Token) (rest : List ℕ) (counter id : ℕ) (mac : List ℕ) → Passing m ts rest → checkedOf m ≡ passed ts rest → saidBy (optionOf 90 ts) ≡ says counter id mac
     → formOf m ≡ Full (authOf (placesOf ts) counter id)
 unfolding formOf
-form-says m ts rest counter id mac p h s = ap formIn h ∙ ap (formSaid (placesOf ts)) s
+full-says m ts rest counter id mac p h s = ap formIn h ∙ ap (formSaid (placesOf ts)) s

@@ -1,25 +1,25 @@
 -- The covered image: what `cover` writes for a message in full form is its image. Option 82 stands behind option 90, so taking it out moves
 -- nothing before it.
-use mathlib.Core.Path.{_≡_, refl, sym, ap, ap₂, _∙_, subst}
+use mathlib.Core.Path.{_≡_, refl, sym, ap, ap₂, _∙_}
 use mathlib.Core.Logic.{_≢_}
 use Prim.Native.Nat.{ℕ, zero, suc, _+_, _-_, _≤_, _<_}
-use native.Mathlib.Nat.{add-assoc, add-zero, zero-add}
+use native.Mathlib.Nat.{add-zero, zero-add}
 use native.Mathlib.Omega.{arith}
-use mathlib.Core.Bool.{Bool, true, false, cond, _&&_}
+use mathlib.Core.Bool.{Bool, true, false, cond, not, _&&_}
 use mathlib.Core.List.{List, [], _∷_, _++_, append-assoc}
-use lib.ListN.{length, take, drop, getD, length-append, length-take, length-drop, length-replicate, take-append-drop}
+use lib.ListN.{length, take, drop, getD, length-append, length-drop, take-append-drop}
 use lib.Seq.{length-take-le, take-at, drop-at, take-all, drop-append-add, drop-drop}
 use lib.Dec.{leb, eqb}
-use borrow.Author.Tests.{le-leb, lt-leb, leb-true, eq-eqb}
+use borrow.Author.Tests.{le-leb, lt-leb, leb-true, not-true, not-false}
 use Rattle.dhcp_message.specs.Bytes.{written, zeros}
-use Rattle.dhcp_message.specs.Options.{Token, pad, opt, Parsed, cut, parsed, encode, decode}
+use Rattle.dhcp_message.specs.Options.{Token, pad, opt, cut, encode}
 use Rattle.dhcp_message.specs.Message.{count, optionOf, before, offsetOf, onlyPads, isLast}
-use Rattle.dhcp_message.specs.Said.{placesOf, formOf}
-use Rattle.dhcp_message.specs.Image.{without, bodyZero, macZero, headWith, headZero, imageIn, imageOf, coverFits, coverBytes, coverSize, coverLeft}
+use Rattle.dhcp_message.specs.Said.{formOf}
+use Rattle.dhcp_message.specs.Image.{without, macZero, headWith, headZero, imageIn, imageOf, coverFits, coverBytes, coverSize, coverLeft}
 use Rattle.dhcp_message.specs.declared.Auth.{Auth}
 use Rattle.dhcp_message.specs.declared.Form.the-variants.{Full}
 use Rattle.dhcp_message.proofs.Lists.{and-true, length-written, written-left, written-body}
-use Rattle.dhcp_message.proofs.Tokens.{Split, split, encode-append, count-append, count-split, option-none, before-none, last-there, no-hit, pads-none, without-none, without-append, without-one, count-without, zero-append, zero-none}
+use Rattle.dhcp_message.proofs.Tokens.{Split, split, encode-append, count-append, count-split, option-none, before-none, without-none, without-append, without-one, count-without, zero-append, zero-none}
 use Rattle.dhcp_message.proofs.Passing.{Passing, whole, header-size, around, front-size, option-is, inside, split-90}
 use Rattle.dhcp_message.proofs.Forms.{Fully, fully, option-length}
 
@@ -168,7 +168,7 @@ pub record Fits (size room : ℕ) (a : Auth) : Type 0 where
   pub fields-there : a .at + 33 ≤ size - a .gap
 
 module _ (size room : ℕ) (a : Auth) where
-  pub fits-true : coverFits size room a ≡ true → Fits size room a
+  fits-true : coverFits size room a ≡ true → Fits size room a
   unfolding coverFits
   fits-true h =
       let left = size - a .gap in
@@ -192,6 +192,13 @@ module _ (size room : ℕ) (a : Auth) where
       let l₄ : 33 ≤ size - a .gap = omega (arith, f .fields-there) in
       let l₅ : a .at ≤ size - a .gap - 33 = omega (arith, f .fields-there) in
       rw (le-leb _ _ l₁, le-leb _ _ l₂, le-leb _ _ l₃, le-leb _ _ l₄, le-leb _ _ l₅)
+
+  -- by what `covers` returned
+  pub fits-given : (r : Bool) → r ≡ coverFits size room a → not r ≡ false → Fits size room a
+  fits-given r e h = fits-true (sym e ∙ not-false r h)
+
+  pub fits-not : (r : Bool) → r ≡ coverFits size room a → not r ≡ true → coverFits size room a ≡ false
+  fits-not r e h = sym e ∙ not-true r h
 
   -- by the tests of `covers`
   pub fits-cut : size < a .cut → false ≡ coverFits size room a

@@ -1,14 +1,14 @@
 -- Laws of lists of bytes: bytes written over a list, first bytes, and numbers in network order. Counts are variables throughout, since a
 -- `take` or `drop` of a numeral computes to cases.
-use mathlib.Core.Path.{_≡_, refl, sym, ap, ap₂, _∙_, subst}
+use mathlib.Core.Path.{_≡_, refl, sym, ap, ap₂, _∙_}
 use mathlib.Core.Logic.{_≢_}
-use Prim.Native.Nat.{ℕ, zero, suc, _+_, _-_, _*_, _/_, _%_, _^_, _≤_, _<_}
+use Prim.Native.Nat.{ℕ, zero, suc, _+_, _*_, _/_, _%_, _^_, _≤_, _<_}
 use native.Mathlib.Nat.{add-assoc, add-zero, zero-add, div-div-eq-div-mul, div-add-mod', mod-eq-of-lt}
 use native.Mathlib.Numerals.{add-one}
 use native.Mathlib.Omega.{arith}
 use mathlib.Core.Bool.{Bool, true, false, _&&_}
 use mathlib.Core.List.{List, [], _∷_, _++_, append-assoc}
-use lib.ListN.{length, take, drop, getD, set, replicate, length-append, length-take, length-drop, length-set, length-replicate, getD-replicate, take-append-drop}
+use lib.ListN.{length, take, drop, getD, set, length-append, length-drop, length-set, length-replicate, getD-replicate, take-append-drop}
 use lib.Seq.{paste, paste-zero, paste-suc, sets, sets-eq, length-take-le, take-all, take-append-le, take-append-add, drop-append-le, drop-append-add, take-at, drop-at, drop-drop, drop-cons, getD-drop, getD-take}
 use lib.Dec.{eqb}
 use borrow.Author.Tests.{eqb-true, eqb-false, eq-eqb, ne-eqb}

@@ -1,22 +1,22 @@
 -- Messages that pass checks 2 to 7: what they are known to have, where their options stand, and how one is put together.
 use mathlib.Core.Path.{_≡_, refl, sym, ap, ap₂, _∙_, subst}
 use mathlib.Core.Logic.{_≢_}
-use Prim.Native.Nat.{ℕ, zero, suc, _+_, _-_, _≤_, _<_}
+use Prim.Native.Nat.{ℕ, _+_, _≤_, _<_}
 use native.Mathlib.Omega.{arith}
 use mathlib.Core.Bool.{Bool, true, false, cond}
-use mathlib.Core.List.{List, [], _∷_, _++_, append-assoc}
-use lib.ListN.{length, take, drop, getD, length-append, length-take, length-drop, take-append-drop}
-use lib.Seq.{length-take-le, take-at, drop-at, drop-append-le, drop-append-add}
+use mathlib.Core.List.{List, _∷_, _++_, append-assoc}
+use lib.ListN.{length, take, drop, length-append, length-drop, take-append-drop}
+use lib.Seq.{length-take-le, take-at, drop-at, drop-append-le}
 use lib.Dec.{ltb, eqb}
 use borrow.Author.Tests.{le-ltb, ne-eqb, eqb-false, ltb-false}
-use Rattle.refusal.specs.declared.Refusal.the-variants.{MessageSize, WrongCookie, BrokenOptions, NoAuthentication, RepeatedAuthentication, RelayInformation}
+use Rattle.refusal.specs.declared.Refusal.the-variants.{MessageSize, WrongCookie, NoAuthentication, RepeatedAuthentication, RelayInformation}
 use Rattle.dhcp_message.specs.Layout.{magicCookie}
 use Rattle.dhcp_message.specs.Bytes.{starts}
-use Rattle.dhcp_message.specs.Options.{Token, pad, opt, Parsed, cut, parsed, encode, decode}
+use Rattle.dhcp_message.specs.Options.{Token, Parsed, cut, parsed, encode, decode}
 use Rattle.dhcp_message.specs.Message.{count, optionOf, before, offsetOf, isLast, Checked, stopped, passed, checkedTokens, checkedParsed, checkedOf, Passed, Passes27}
 use Rattle.dhcp_message.proofs.Lists.{starts-append}
 use Rattle.dhcp_message.proofs.Decoding.{Codes, decode-encode, encode-decode}
-use Rattle.dhcp_message.proofs.Tokens.{Split, split, encode-append, option-there, before-there}
+use Rattle.dhcp_message.proofs.Tokens.{once, Split, split, encode-append, option-there, before-there}
 
 pub record Passing (m : List ℕ) (ts : List Token) (rest : List ℕ) : Type 0 where
   pub long : 241 ≤ length m
@@ -26,10 +26,6 @@ pub record Passing (m : List ℕ) (ts : List Token) (rest : List ℕ) : Type 0 w
   pub one-90 : count 90 ts ≡ 1
   pub most-82 : count 82 ts ≤ 1
   pub last-82 : isLast 82 ts ≡ true
-
-pub once : (n : ℕ) → n ≢ 0 → n ≤ 1 → n ≡ 1
-once zero h l = absurd (h refl)
-once (suc n) h l = omega arith
 
 abbrev Good : List ℕ → Checked → Type 0
 Good m (stopped r) = Unit {0}

@@ -2,22 +2,21 @@
 -- 82 is the same tokens, and hops and giaddr are zero in the image.
 use mathlib.Core.Path.{_≡_, refl, sym, ap, ap₂, _∙_, subst}
 use mathlib.Core.Logic.{_≢_}
-use Prim.Native.Nat.{ℕ, zero, suc, _+_, _≤_, _<_}
+use Prim.Native.Nat.{ℕ, _+_, _≤_, _<_}
 use native.Mathlib.Omega.{arith}
-use mathlib.Core.Bool.{Bool, true, false, cond}
+use mathlib.Core.Bool.{true}
 use mathlib.Core.List.{List, [], _∷_, _++_}
-use lib.ListN.{length, take, drop, length-append}
-use lib.Seq.{drop-append-le}
+use lib.ListN.{length, take, drop}
 use Rattle.dhcp_message.specs.Layout.{magicCookie}
 use Rattle.dhcp_message.specs.Bytes.{Bytes, written, zeros, starts}
-use Rattle.dhcp_message.specs.Options.{Token, pad, opt, Parsed, parsed, encode, decode, Reads}
-use Rattle.dhcp_message.specs.Message.{count, optionOf, onlyPads, isLast, checkedOf, passed, Passes27, authIn, authOptionOf}
-use Rattle.dhcp_message.specs.Said.{Said, saidBy, saidIn, saidOf, idOf, named}
-use Rattle.dhcp_message.specs.Image.{without, macZero, headWith, headZero, imageIn, imageOf}
-use Rattle.dhcp_message.specs.Relay.{RelayBody, RelayChange, kept, added, replaced, removed, Permitted, Relayed, unchanged, changed, Kept, RelayKeeps}
-use Rattle.dhcp_message.proofs.Lists.{length-written, written-over, written-apart, drop-written, bytes-append, bytes-left, bytes-right, bytes-take, bytes-drop, bytes-written}
+use Rattle.dhcp_message.specs.Options.{Token, pad, opt, Parsed, encode}
+use Rattle.dhcp_message.specs.Message.{count, optionOf, isLast, authIn, authOptionOf}
+use Rattle.dhcp_message.specs.Said.{saidBy, saidIn, saidOf, idOf, named}
+use Rattle.dhcp_message.specs.Image.{without, macZero, headWith, imageIn, imageOf}
+use Rattle.dhcp_message.specs.Relay.{RelayChange, kept, added, replaced, removed, Permitted, Relayed, unchanged, changed, Kept, RelayKeeps}
+use Rattle.dhcp_message.proofs.Lists.{length-written, written-over, written-apart, drop-written, bytes-append, bytes-left, bytes-right, bytes-written}
 use Rattle.dhcp_message.proofs.Decoding.{Codes, reads-decode}
-use Rattle.dhcp_message.proofs.Tokens.{encode-append, nil-right, count-append, count-split, last-there, last-behind, last-none, without-append, without-one, count-without, option-without}
+use Rattle.dhcp_message.proofs.Tokens.{encode-append, nil-right, count-append, count-split, last-there, last-none, without-append, without-one, count-without, option-without}
 use Rattle.dhcp_message.proofs.Passing.{Passing, passing, checks, passing-27, tokens-of, take-built, passing-built, header-size, header-magic, codes, whole}
 use Rattle.dhcp_message.proofs.Images.{head-length}
 
@@ -179,7 +178,7 @@ module _ (m n : List ℕ) (r : Permitted m n) where
   relay-once : Kept m n
   unfolding named
   relay-once = record {
-    passes = λ h. passing-27 n us (r .rest) passing-after;
+    still-passes = λ h. passing-27 n us (r .rest) passing-after;
     option = auth-kept;
     said = said-kept;
     name = ap idOf said-kept;
@@ -190,12 +189,12 @@ module _ (m n : List ℕ) (r : Permitted m n) where
 -- ---- any number of them
 
 relay-often : (m n : List ℕ) → Relayed m n → Kept m n
-relay-often m n (unchanged) = record { passes = λ h. h; option = refl; said = refl; name = refl; image = refl; bytes = λ b. b }
+relay-often m n (unchanged) = record { still-passes = λ h. h; option = refl; said = refl; name = refl; image = refl; bytes = λ b. b }
 relay-often before after (changed {l} {m} {n} c more) =
     let a = relay-once l m c in
     let b = relay-often m n more in
     record {
-      passes = λ h. b .passes (a .passes h);
+      still-passes = λ h. b .still-passes (a .still-passes h);
       option = b .option ∙ a .option;
       said = b .said ∙ a .said;
       name = b .name ∙ a .name;

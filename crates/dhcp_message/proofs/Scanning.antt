@@ -2,7 +2,7 @@
 -- definitions on tokens do.
 use mathlib.Core.Path.{_≡_, refl, sym, ap, ap₂, _∙_}
 use mathlib.Core.Logic.{_≢_}
-use Prim.Native.Nat.{ℕ, zero, suc, _+_, _-_, _≤_, _<_}
+use Prim.Native.Nat.{ℕ, suc, _+_, _-_, _≤_, _<_}
 use native.Mathlib.Nat.{add-assoc, zero-add, add-zero}
 use native.Mathlib.Numerals.{add-one}
 use native.Mathlib.Omega.{arith}
@@ -11,12 +11,12 @@ use mathlib.Core.List.{List, [], _∷_, _++_}
 use lib.ListN.{length, take, drop, getD, length-append, length-drop, drop-of-length-le}
 use lib.Seq.{length-take-le, drop-cons, drop-drop}
 use lib.Dec.{leb, ltb, eqb}
-use borrow.Author.Tests.{le-leb, lt-leb, ne-eqb, eq-eqb, leb-true, lt-ltb, le-ltb, eqb-true, eqb-false, ltb-false}
+use borrow.Author.Tests.{le-leb, lt-leb, ne-eqb, eq-eqb, leb-true, lt-ltb, le-ltb, eqb-true, eqb-false, ltb-true, ltb-false}
 use Rattle.refusal.specs.declared.Refusal.the-variants.{MessageSize, WrongCookie, BrokenOptions, NoAuthentication, RepeatedAuthentication, RelayInformation}
 use Rattle.dhcp_message.specs.Layout.{magicCookie}
 use Rattle.dhcp_message.specs.Bytes.{starts}
-use Rattle.dhcp_message.specs.Options.{Token, pad, opt, Parsed, cut, parsed, encode, Front, nothing, end, token, body, option, code, front, onto, step, decode}
-use Rattle.dhcp_message.specs.Message.{count, optionOf, before, onlyPads, isLast, Checked, stopped, passed, checkedTokens, checkedParsed, checkedOf}
+use Rattle.dhcp_message.specs.Options.{Token, pad, opt, Parsed, cut, parsed, encode, body, option, code, onto, step, decode}
+use Rattle.dhcp_message.specs.Message.{count, optionOf, before, onlyPads, isLast, stopped, passed, checkedTokens, checkedParsed, checkedOf}
 use Rattle.dhcp_message.specs.Said.{placesOf}
 use Rattle.dhcp_message.specs.Scan.{frontOf, hereOf, hereAt, seen90, seen82, seenOther, seenOf, scanFrom, scanParsed, nothingFound, scanOf, judgeOf, shapeIn, shapeOf}
 use Rattle.dhcp_message.specs.declared.Here.{Here}
@@ -28,7 +28,7 @@ use Rattle.dhcp_message.specs.declared.Places.{Places}
 use Rattle.dhcp_message.specs.declared.Shape.{Shape}
 use Rattle.dhcp_message.specs.declared.Shape.the-variants.{Refused as SRefused, Passed as SPassed}
 use Rattle.dhcp_message.proofs.Decoding.{decode-cons, decode-nil}
-use Rattle.dhcp_message.proofs.Tokens.{no-hit, option-none, before-none, last-none}
+use Rattle.dhcp_message.proofs.Tokens.{once, no-hit, option-none, before-none, last-none}
 
 -- ---- what stands at an offset, by the tests of `here_at`
 
@@ -391,26 +391,18 @@ module _ (ts : List Token) (rest : List ℕ) where
       ≡ shapeIn (cond x (stopped NoAuthentication) (cond y (stopped RepeatedAuthentication) (cond w (stopped RelayInformation) (cond l (passed ts rest) (stopped RelayInformation)))))
   judge-by true y z w l hx hy hz hw hl = refl
   judge-by false true z w l hx hy hz hw hl = refl
-  judge-by false false true true l hx hy hz hw hl = absurd (omega (arith, eqb-true (count 82 ts) 0 hz, borrow.Author.Tests.ltb-true 1 (count 82 ts) hw))
+  judge-by false false true true l hx hy hz hw hl = absurd (omega (arith, eqb-true (count 82 ts) 0 hz, ltb-true 1 (count 82 ts) hw))
   judge-by false false true false false hx hy hz hw hl = let e = last-none 82 ts (eqb-true (count 82 ts) 0 hz) in let z : _≡_ {A = ℕ} 0 1 = cc in absurd (omega arith)
   judge-by false false true false true hx hy hz hw hl =
       let n = eqb-false (count 90 ts) 0 hx in
       let b = ltb-false 1 (count 90 ts) hy in
       ap SPassed (same-places₀ (once (count 90 ts) n b) (eqb-true (count 82 ts) 0 hz))
-    where
-      once : (n : ℕ) → n ≢ 0 → n ≤ 1 → n ≡ 1
-      once zero h l = absurd (h refl)
-      once (suc n) h l = omega arith
   judge-by false false false true l hx hy hz hw hl = refl
   judge-by false false false false l hx hy hz hw hl =
       let a = once (count 90 ts) (eqb-false (count 90 ts) 0 hx) (ltb-false 1 (count 90 ts) hy) in
       let r = once (count 82 ts) (eqb-false (count 82 ts) 0 hz) (ltb-false 1 (count 82 ts) hw) in
       ap (λ (t : Bool). cond t (SPassed places₁) (SRefused RelayInformation)) (code-once 82 ts 0 r ∙ hl) ∙ by l (same-places₁ a r)
     where
-      once : (n : ℕ) → n ≢ 0 → n ≤ 1 → n ≡ 1
-      once zero h l = absurd (h refl)
-      once (suc n) h l = omega arith
-
       by : (l : Bool) → places₁ ≡ placesOf ts → cond l (SPassed places₁) (SRefused RelayInformation) ≡ shapeIn (cond l (passed ts rest) (stopped RelayInformation))
       by true e = ap SPassed e
       by false e = refl

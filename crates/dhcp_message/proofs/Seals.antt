@@ -2,30 +2,32 @@
 -- image does not depend on the MAC. On tokens, one option 90 has another body of the same length.
 use mathlib.Core.Path.{_≡_, refl, sym, ap, ap₂, _∙_, subst}
 use mathlib.Core.Logic.{_≢_}
-use Prim.Native.Nat.{ℕ, zero, suc, _+_, _-_, _/_, _%_, _^_, _≤_, _<_}
+use Prim.Native.Nat.{ℕ, suc, _+_, _/_, _%_, _^_, _≤_, _<_}
 use native.Mathlib.Nat.{add-assoc, add-zero, zero-add}
 use native.Mathlib.Omega.{arith}
 use mathlib.Core.Bool.{Bool, true, false, cond}
 use mathlib.Core.List.{List, [], _∷_, _++_, append-assoc}
 use lib.ListN.{length, take, drop, getD, length-append, length-drop, take-append-drop, List·getD-append}
-use lib.Seq.{length-take-le, take-all, take-at, drop-append-add, drop-append-le, drop-drop, getD-append-add}
+use lib.Seq.{length-take-le, take-all, take-at, drop-append-add, drop-append-le, drop-drop, getD-drop, getD-append-add}
 use lib.Dec.{eqb}
 use borrow.Author.Tests.{eq-eqb, ne-eqb}
+use Rattle.refusal.specs.declared.Refusal.{Refusal}
 use Rattle.dhcp_message.specs.Layout.{delayed}
 use Rattle.dhcp_message.specs.Bytes.{Bytes, written, zeros, starts, be32, be64, bytes32, bytes64}
-use Rattle.dhcp_message.specs.Options.{Token, pad, opt, Parsed, parsed, encode, decode}
-use Rattle.dhcp_message.specs.Message.{count, optionOf, before, offsetOf, onlyPads, isLast, Passes27, checkedOf, passed}
-use Rattle.dhcp_message.specs.Said.{Said, says, saidFor, saidBy, saidIn, saidOf, placesOf, authOf, formSaid, formOf}
+use Rattle.dhcp_message.specs.Options.{Token, pad, opt, Parsed, encode}
+use Rattle.dhcp_message.specs.Message.{count, optionOf, before, offsetOf, onlyPads, isLast, Checked, stopped, passed, checkedOf}
+use Rattle.dhcp_message.specs.Said.{Said, refused, says, saidBy, saidIn, saidOf, idOf, named, placesOf, authOf, formSaid, formIn, formOf, formSays, formNames, FormSays}
 use Rattle.dhcp_message.specs.Image.{without, macZero, headZero, imageIn, imageOf, coverFits, coverBytes, coverSize, coverLeft}
 use Rattle.dhcp_message.specs.Seal.{fields, fieldsPut, macPut, sealedWith, withFields, FullForm, Sealed, SealLaws}
 use Rattle.dhcp_message.specs.declared.Places.{Places}
 use Rattle.dhcp_message.specs.declared.Auth.{Auth}
-use Rattle.dhcp_message.specs.declared.Form.the-variants.{Full}
-use Rattle.dhcp_message.proofs.Lists.{length-written, written-over, written-join, written-part, written-same, drop-written, written-body, starts-append, at-32, at-64, below-32, below-64, read-32, read-64, bytes-right, bytes-left, bytes-drop}
+use Rattle.dhcp_message.specs.declared.Form.{Form}
+use Rattle.dhcp_message.specs.declared.Form.the-variants.{Refused, Full}
+use Rattle.dhcp_message.proofs.Lists.{length-written, written-over, written-join, written-part, written-same, drop-written, written-body, starts-append, at-32, at-64, below-32, below-64, read-32, read-64, bytes-left, bytes-drop}
 use Rattle.dhcp_message.proofs.Decoding.{Codes}
 use Rattle.dhcp_message.proofs.Tokens.{Split, encode-append, option-there, without-append, zero-append}
 use Rattle.dhcp_message.proofs.Passing.{Passing, passing, checks, passing-27, passing-built, take-built, header-size, header-magic, codes, around, front-size, option-is, from-option, split-90}
-use Rattle.dhcp_message.proofs.Forms.{Fully, fully, form-says, mac-kept, option-length}
+use Rattle.dhcp_message.proofs.Forms.{Fully, fully, full-says, mac-kept, option-length}
 use Rattle.dhcp_message.proofs.Images.{at-is, cut-is, gap-is, body-long, at-late, option-inside, stretch-inside, image-length, covers-full}
 
 -- ---- another body of the same length
@@ -216,7 +218,7 @@ module _ (m : List ℕ) (a : Auth) (e : formOf m ≡ Full a) (new : List ℕ) (s
   checked-sealed = checks (sealedWith a new m) us (y .rest) passing-sealed
 
   form-sealed : formOf (sealedWith a new m) ≡ Full (withFields a (be64 new 0) (be32 new 8))
-  form-sealed = form-says (sealedWith a new m) us (y .rest) (be64 new 0) (be32 new 8) (drop 12 new) passing-sealed checked-sealed said-sealed ∙ ap Full auth-same
+  form-sealed = full-says (sealedWith a new m) us (y .rest) (be64 new 0) (be32 new 8) (drop 12 new) passing-sealed checked-sealed said-sealed ∙ ap Full auth-same
 
   says-sealed : saidOf (sealedWith a new m) ≡ says (be64 new 0) (be32 new 8) (drop 12 new)
   unfolding saidOf
@@ -271,6 +273,54 @@ full-form m a e =
       counter-size = λ b. subst (λ (n : ℕ). n < 2 ^ 64) (sym (y .counter-is)) (below-64 (optionOf 90 (y .tokens)) 5 (bytes b));
       id-size = λ b. subst (λ (n : ℕ). n < 2 ^ 32) (sym (y .id-is)) (below-32 (optionOf 90 (y .tokens)) 13 (bytes b));
     }
+
+-- ---- what a message says is what its form says
+
+refused-said : (m : List ℕ) (r : Refusal) → formOf m ≡ Refused r → saidOf m ≡ refused r
+unfolding formOf saidOf
+refused-said m r e = by (checkedOf m) e
+  where
+    by-said : (p : Places) (s : Said) → formSaid p s ≡ Refused r → s ≡ refused r
+    by-said p (refused q) e = let z : q ≡ r = cc in ap refused z
+    by-said p (says c i x) e = let z : _≡_ {A = ℕ} 0 1 = cc in absurd (omega arith)
+
+    by : (c : Checked) → formIn c ≡ Refused r → saidIn c ≡ refused r
+    by (stopped q) e = let z : q ≡ r = cc in ap refused z
+    by (passed ts rest) e = by-said (placesOf ts) (saidBy (optionOf 90 ts)) e
+
+said-form : (m : List ℕ) → saidOf m ≡ formSays m (formOf m)
+said-form m = by (formOf m) refl
+  where
+    by : (f : Form) → formOf m ≡ f → saidOf m ≡ formSays m f
+    by (Refused r) e = refused-said m r e
+    by (Full a) e = full-form m a e .said
+
+named-form : (m : List ℕ) → named m ≡ formNames (formOf m)
+unfolding named
+named-form m = ap idOf (said-form m) ∙ by (formOf m)
+  where
+    by : (f : Form) → idOf (formSays m f) ≡ formNames f
+    by (Refused r) = refl
+    by (Full a) = refl
+
+-- a byte of option 90, where it stands
+byte-there : (m : List ℕ) (a : Auth) (e : formOf m ≡ Full a) (k : ℕ) → k < 33 → getD m (a .at + k) 0 ≡ getD (optionOf 90 (fully m a e .tokens)) k 0
+byte-there m a e k h =
+    let y = fully m a e in
+    let s = split-90 m (y .tokens) (y .rest) (y .passing) in
+    let x = optionOf 90 (y .tokens) in
+    let l : k < length x = omega (arith, option-length m (y .tokens) (y .rest) (y .passing), y .long) in
+    ap (λ (n : ℕ). getD m (n + k) 0) (at-is m a e) ∙ sym (getD-drop (offsetOf 90 (y .tokens)) m k 0)
+    ∙ ap (λ (l : List ℕ). getD l k 0) (from-option m (y .tokens) (y .rest) (y .passing) 90 s)
+    ∙ List·getD-append x (encode (s .back) ++ (255 ∷ y .rest)) 0 k l
+
+pub form-says : FormSays
+form-says = record {
+  said = said-form;
+  name = named-form;
+  counter-there = λ m a e. fully m a e .counter-is ∙ sym (at-64 m (optionOf 90 (fully m a e .tokens)) (a .at + 5) 5 (λ k h. ap (λ (n : ℕ). getD m n 0) (add-assoc (a .at) 5 k) ∙ byte-there m a e (5 + k) (omega arith)));
+  id-there = λ m a e. fully m a e .id-is ∙ sym (at-32 m (optionOf 90 (fully m a e .tokens)) (a .at + 13) 13 (λ k h. ap (λ (n : ℕ). getD m n 0) (add-assoc (a .at) 13 k) ∙ byte-there m a e (13 + k) (omega arith)));
+}
 
 -- ---- the writers
 

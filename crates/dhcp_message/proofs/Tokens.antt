@@ -1,18 +1,22 @@
 -- Laws of tokens: appending, splitting at the option of a code, and taking options out.
 use mathlib.Core.Path.{_≡_, refl, sym, ap, ap₂, _∙_}
 use mathlib.Core.Logic.{_≢_}
-use Prim.Native.Nat.{ℕ, zero, suc, _+_, _-_, _≤_, _<_}
-use native.Mathlib.Nat.{add-assoc, zero-add, add-zero}
+use Prim.Native.Nat.{ℕ, zero, suc, _+_, _≤_}
+use native.Mathlib.Nat.{add-assoc, zero-add}
 use mathlib.Core.Bool.{Bool, true, false, cond}
 use mathlib.Core.List.{List, [], _∷_, _++_, append-assoc}
 use native.Mathlib.Omega.{arith}
-use lib.ListN.{length, length-append}
+use lib.ListN.{length}
 use lib.Dec.{eqb}
-use borrow.Author.Tests.{ne-eqb, eq-eqb, eqb-true, eqb-false}
+use borrow.Author.Tests.{ne-eqb, eq-eqb, eqb-true}
 use Rattle.dhcp_message.specs.Options.{Token, pad, opt, encode}
 use Rattle.dhcp_message.specs.Message.{count, optionOf, before, onlyPads, isLast}
 use Rattle.dhcp_message.specs.Image.{without, bodyZero, macZero}
 use Rattle.dhcp_message.specs.Numbers.{OnlyPads}
+
+pub once : (n : ℕ) → n ≢ 0 → n ≤ 1 → n ≡ 1
+once zero h l = absurd (h refl)
+once (suc n) h l = omega arith
 
 pub encode-append : (p q : List Token) → encode (p ++ q) ≡ encode p ++ encode q
 encode-append [] q = refl

@@ -7,7 +7,7 @@ use mathlib.Core.List.{List, [], _∷_, _++_}
 use Rattle.refusal.specs.declared.Refusal.the-variants.{MessageSize, BrokenOptions, NoAuthentication, RelayInformation, OtherAuthentication, RequestForm}
 use Rattle.dhcp_message.specs.Bytes.{zeros}
 use Rattle.dhcp_message.specs.Layout.{cookieAt, magicCookie}
-use Rattle.dhcp_message.specs.Said.{Said, refused, says, saidOf}
+use Rattle.dhcp_message.specs.Said.{refused, says, saidOf}
 use Rattle.dhcp_message.specs.Image.{imageOf}
 
 abbrev pub messageOf : List ℕ → List ℕ

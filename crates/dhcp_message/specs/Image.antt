@@ -2,7 +2,7 @@
 -- the MAC zero, the whole of option 82 taken out, everything else in its order, the bytes after End with it.
 -- Then what `cover` writes for any offsets and any room.
 use Prim.Native.Nat.{ℕ, _+_, _-_}
-use mathlib.Core.Bool.{Bool, true, false, cond, _&&_}
+use mathlib.Core.Bool.{Bool, cond, _&&_}
 use mathlib.Core.List.{List, [], _∷_, _++_}
 use lib.ListN.{length, take, drop}
 use lib.Dec.{leb, eqb}

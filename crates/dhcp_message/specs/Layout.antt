@@ -1,6 +1,6 @@
 -- Where things stand in a DHCP message, and how large they are. RFC 2131 decides the header, RFC 2132 and 3046 the options,
 -- RFC 3118 option 90, document 01 ('The message') the limits. Every number is named here and nowhere else.
-use Prim.Native.Nat.{ℕ}
+use Prim.Native.Nat.{ℕ, _+_, _-_}
 use mathlib.Core.List.{List, [], _∷_}
 
 -- the sizes that a message may have
@@ -77,15 +77,15 @@ abbrev pub fieldsSize : ℕ
 fieldsSize = 12
 
 abbrev pub sealSize : ℕ
-sealSize = 28
+sealSize = fieldsSize + macSize
 
 -- the whole of option 90 in full form
 abbrev pub fullSize : ℕ
-fullSize = 33
+fullSize = macAt + macSize
 
 -- its length byte in full form, and in request form, without id and MAC
 abbrev pub fullLength : ℕ
-fullLength = 31
+fullLength = fullSize - optionHead
 
 abbrev pub requestLength : ℕ
 requestLength = 11

@@ -46,17 +46,17 @@ RelayWrong ts = (1 < count relayCode ts) ⊎ Has relayCode (λ body back. OnlyPa
 
 -- 8: the length is neither 11 nor 31, or the first three body bytes are not 1, 1, 0
 abbrev pub OtherForm : List ℕ → List Token → Type 0
-OtherForm body back = ((length body ≢ requestLength) × (length body ≢ fullLength)) ⊎ (take 3 body ≢ delayed)
+OtherForm body back = ((length body ≢ requestLength) × (length body ≢ fullLength)) ⊎ (take (length delayed) body ≢ delayed)
 
 -- 9: request form, bytes 1, 1, 0
 abbrev pub RequestBytes : List ℕ → List Token → Type 0
-RequestBytes body back = (length body ≡ requestLength) × (take 3 body ≡ delayed)
+RequestBytes body back = (length body ≡ requestLength) × (take (length delayed) body ≡ delayed)
 
 -- a number that speaks of the message alone applies to it
 abbrev pub Applies : Refusal → List ℕ → Type 0
 Applies UnsoundBook m = ⊥
 Applies MessageSize m = (length m < messageLeast) ⊎ (messageMost < length m)
-Applies WrongCookie m = take 4 (drop cookieAt m) ≢ magicCookie
+Applies WrongCookie m = take (length magicCookie) (drop cookieAt m) ≢ magicCookie
 Applies BrokenOptions m = Unreadable m
 Applies NoAuthentication m = Readable (λ ts. count authCode ts ≡ 0) m
 Applies RepeatedAuthentication m = Readable (λ ts. 1 < count authCode ts) m

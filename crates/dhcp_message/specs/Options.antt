@@ -1,11 +1,11 @@
 -- Options as tokens (RFC 2132, section 2; document 01, 'The message'): a pad, or an option with its code and body. `encode` gives the
 -- bytes of tokens; `decode` reads tokens up to the first End. That each undoes the other is stated here as `RoundTrips`.
-use Prim.Native.Nat.{ℕ, zero, suc, _+_, _≤_, _<_}
+use Prim.Native.Nat.{ℕ, zero, suc, _≤_, _<_}
 use mathlib.Core.Path.{_≡_}
 use mathlib.Core.Bool.{Bool, true, false}
 use mathlib.Core.List.{List, [], _∷_, _++_}
 use mathlib.Core.Logic.{_↔_}
-use lib.ListN.{length, take, drop}
+use lib.ListN.{length, take}
 use lib.Dec.{leb, eqb}
 use Rattle.dhcp_message.specs.Layout.{padCode, endCode, bodyMost}
 use Rattle.dhcp_message.specs.Bytes.{Bytes}

@@ -45,7 +45,7 @@ pub data Relayed : List ℕ → List ℕ → Type 0 where
 
 -- what is the same after a change: option 90's bytes, what the message says (the numbers 8 and 9, counter, id and MAC), and the covered image
 pub record Kept (m n : List ℕ) : Type 0 where
-  pub passes : Passes27 m → Passes27 n
+  pub still-passes : Passes27 m → Passes27 n
   pub option : authOptionOf n ≡ authOptionOf m
   pub said : saidOf n ≡ saidOf m
   pub name : named n ≡ named m

@@ -1,6 +1,7 @@
 -- What a message says to delayed authentication (RFC 3118, section 5): a refusal of 2 to 9, or counter, secret id and MAC. It is read off
 -- option 90's own bytes and does not depend on where that option stands. `formOf` adds where it stands, for the code that goes on.
-use Prim.Native.Nat.{ℕ}
+use Prim.Native.Nat.{ℕ, _+_}
+use mathlib.Core.Path.{_≡_}
 use mathlib.Core.Bool.{Bool, true, false, cond}
 use mathlib.Core.List.{List}
 use mathlib.Core.Option.{Option, none, some}
@@ -66,3 +67,19 @@ formIn (passed ts rest) = formSaid (placesOf ts) (saidBy (optionOf authCode ts))
 -- the lowest of 2 to 9 that applies, or what the full form says and where
 unfoldable pub formOf : List ℕ → Form
 formOf m = formIn (checkedOf m)
+
+-- what a form says of a message: counter and id as they stand there, and the 16 bytes of the MAC
+abbrev pub formSays : List ℕ → Form → Said
+formSays m (Refused r) = refused r
+formSays m (Full a) = says (a .counter) (a .id) (take macSize (drop (a .at + macAt) m))
+
+abbrev pub formNames : Form → Option ℕ
+formNames (Refused r) = none
+formNames (Full a) = some (a .id)
+
+-- what a message says, and the secret it names, is what is found in it
+pub record FormSays : Type 0 where
+  pub said : (m : List ℕ) → saidOf m ≡ formSays m (formOf m)
+  pub name : (m : List ℕ) → named m ≡ formNames (formOf m)
+  pub counter-there : (m : List ℕ) (a : Auth) → formOf m ≡ Full a → a .counter ≡ be64 m (a .at + counterAt)
+  pub id-there : (m : List ℕ) (a : Auth) → formOf m ≡ Full a → a .id ≡ be32 m (a .at + secretIdAt)

@@ -1,11 +1,10 @@
 -- What the code's one pass over the options collects, for the contracts of its private functions. Nothing here needs to be believed:
 -- the public contracts speak of the definitions in Message, Said and Image, and proofs/ shows that the two agree.
 use Prim.Native.Nat.{ℕ, _+_}
-use mathlib.Core.Bool.{Bool, true, false, cond}
+use mathlib.Core.Bool.{cond}
 use mathlib.Core.List.{List, [], _∷_}
 use lib.ListN.{length, drop}
 use lib.Dec.{ltb, eqb}
-use Rattle.refusal.specs.declared.Refusal.{Refusal}
 use Rattle.refusal.specs.declared.Refusal.the-variants.{NoAuthentication, RepeatedAuthentication, RelayInformation}
 use Rattle.dhcp_message.specs.Layout.{headerSize, relayCode, authCode, optionHead}
 use Rattle.dhcp_message.specs.Options.{Token, pad, opt, Parsed, cut, parsed, Front, nothing, end, token, front, decode}
@@ -16,7 +15,6 @@ use Rattle.dhcp_message.specs.declared.Here.the-variants.{Cut as HCut, E
 use Rattle.dhcp_message.specs.declared.Found.{Found}
 use Rattle.dhcp_message.specs.declared.Scan.{Scan}
 use Rattle.dhcp_message.specs.declared.Scan.the-variants.{Cut as SCut, Whole as SWhole}
-use Rattle.dhcp_message.specs.declared.Places.{Places}
 use Rattle.dhcp_message.specs.declared.Shape.{Shape}
 use Rattle.dhcp_message.specs.declared.Shape.the-variants.{Refused as SRefused, Passed as SPassed}
 

@@ -9,7 +9,7 @@ use lib.Dec.{eqb}
 use Rattle.dhcp_message.specs.Layout.{messageLeast, messageMost, headerSize, counterAt, macAt, macSize, fieldsSize, sealSize, fullSize}
 use Rattle.dhcp_message.specs.Bytes.{Bytes, written, be32, be64, bytes32, bytes64}
 use Rattle.dhcp_message.specs.Message.{Passes27}
-use Rattle.dhcp_message.specs.Said.{Said, says, saidOf, formOf}
+use Rattle.dhcp_message.specs.Said.{says, saidOf, formOf}
 use Rattle.dhcp_message.specs.Image.{imageOf, coverSize, coverLeft}
 use Rattle.dhcp_message.specs.declared.Auth.{Auth}
 use Rattle.dhcp_message.specs.declared.Form.the-variants.{Full}

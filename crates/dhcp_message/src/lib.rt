@@ -469,7 +469,7 @@ pub fn put_fields(part: &mut [u8], counter: u64, id: u32)
 }
 
 // Writes the MAC there.
-pub fn put_mac(part: &mut [u8], mac: [u8; 16])
+pub fn put_mac(part: &mut [u8], mac: [u8; MAC_SIZE])
     ensures { λ _. ⌜ now (part .exit) ≡ macPut (now (part .entry)) mac ⌝ }
 {
     if part.len() != SEAL_SIZE {

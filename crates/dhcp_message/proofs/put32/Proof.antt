@@ -2,7 +2,6 @@
 use native.Mathlib.Omega.{arith}
 use native.Mathlib.Numerals.{towards-suc}
 use lib.ListN.{length-set}
-use mathlib.Core.Path.{_∙_}
 use denote.Ref.{now}
 use Rattle.dhcp_message.specs.Bytes.{bytes32}
 use Rattle.dhcp_message.proofs.Lists.{sets-written}
