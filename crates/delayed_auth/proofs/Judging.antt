@@ -12,12 +12,11 @@ use lib.ListN.{length, getD, take, drop}
 use Rattle.refusal.specs.declared.Refusal.{Refusal}
 use Rattle.refusal.specs.declared.Refusal.the-variants.{UnsoundBook, UnknownSecret, Replay, WrongMac}
 use Rattle.hmac_md5.specs.Hmac.{hmac}
-use Rattle.dhcp_message.specs.Said.{Said, refused, says, saidOf, formOf}
+use Rattle.dhcp_message.specs.Said.{Said, refused, says, saidOf, formOf, formSays}
 use Rattle.dhcp_message.specs.Image.{imageOf}
 use Rattle.dhcp_message.specs.declared.Auth.{Auth}
 use Rattle.dhcp_message.specs.declared.Form.the-variants.{Refused as FormRefused, Full}
-use Rattle.dhcp_message.proofs.Agreeing.{said-refused}
-use Rattle.dhcp_message.proofs.Seals.{full-form}
+use Rattle.dhcp_message.proofs.Seals.{form-says, full-form}
 use Rattle.key_book.specs.Book.{Book, sound, rowOf, keyOf, keyStart, movedOn}
 use Rattle.key_book.proofs.Says.{sound-says, row-says, rows-within, key-says}
 use Rattle.delayed_auth.specs.declared.Verdict.{Verdict}
@@ -26,6 +25,11 @@ use Rattle.delayed_auth.specs.declared.Keyed.{Keyed}
 use Rattle.delayed_auth.specs.declared.Keyed.the-variants.{Row, NoKey}
 use Rattle.delayed_auth.specs.Check.{sameBytes, judgedBy, judgedRow, judgedSaid, judgedSound, checkOf}
 use Rattle.delayed_auth.specs.Key.{keyedRow, keyedSaid, keyedSound, keyedOf}
+
+-- ---- a message whose form is refused says that refusal
+
+said-refused : (m : List ℕ) (r : Refusal) → formOf m ≡ FormRefused r → saidOf m ≡ refused r
+said-refused m r e = form-says .said m ∙ ap (formSays m) e
 
 -- ---- a row that was found on a sound book
 

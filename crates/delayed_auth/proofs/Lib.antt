@@ -1,2 +1,3 @@
 pub mod Macs
 pub mod Judging
+pub mod Plans

@@ -1,5 +1,5 @@
 -- What a seal goes by, for the contract of a private function: the numbers of `sealOf` in their order, else option 90 and the row.
--- Nothing here needs to be believed: the public contract speaks of `sealOf`, and proofs/Sealing.antt shows that the two agree.
+-- Nothing here needs to be believed: the public contract speaks of `sealOf`, and proofs/Plans.antt shows that the two agree.
 use Prim.Native.Nat.{ℕ}
 use mathlib.Core.Bool.{Bool, true, false}
 use mathlib.Core.List.{List}

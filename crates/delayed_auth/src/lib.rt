@@ -282,7 +282,13 @@ pub fn seal(
         Plan::NotReady(refusal) => Sealing::Unsealed(refusal),
         Plan::Ready(auth, row) => {
             let counter = sent[row] + 1;
-            write_seal(key_book::key_of(store, lengths, row), auth, counter, id, message);
+            write_seal(
+                key_book::key_of(store, lengths, row),
+                auth,
+                counter,
+                id,
+                message,
+            );
             sent[row] = counter;
             Sealing::Sealed(counter)
         }

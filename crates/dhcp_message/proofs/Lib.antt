@@ -9,4 +9,3 @@ pub mod Seals
 pub mod Relays
 pub mod Lowest
 pub mod Examples
-pub mod Agreeing

@@ -1,75 +1,91 @@
+-- `delayed_auth::seal` meets its contract: the plan, and what it leads to (proofs/Plans.antt).
+use Prim.Native.Nat.{ℕ, _+_}
+use mathlib.Core.Path.{_≡_, refl, sym, ap, _∙_}
+use mathlib.Core.List.{List}
+use lib.ListN.{length, getD, set}
+use Rattle.key_book.specs.Book.{bookOf, keyOf}
+use Rattle.delayed_auth.specs.Seal.{Outcome, sealedMessage, sealOf, sealingOf, messageAfter, sentAfter}
+use Rattle.delayed_auth.proofs.Plans.{seal-planned, ready-facts}
 use borrow.Author.Needs.{needs}
+use native.Mathlib.Omega.{arith}
 use Rattle.delayed_auth.proofs.seal.Statement.{statement}
 use Rattle.delayed_auth.proofs.seal.Tie as tie
-use Rattle.delayed_auth.proofs.seal.Reads as reads
-use Rattle.delayed_auth.proofs.seal.Lts as lts
 use Rattle.delayed_auth.proofs.planned.Reads as planned-reads
 use Rattle.delayed_auth.proofs.write_seal.Reads as write-seal-reads
 use Rattle.key_book.proofs.key_of.Reads as key-of-reads
 
--- src/lib.rt:280:9
 planned-requires : tie.Need-planned-requires
 planned-requires c κs = search needs
 
--- src/lib.rt:282:24
 enum-known-plan : tie.Need-enum-known-plan
 enum-known-plan c = search needs
 
--- src/lib.rt:283:21
 enum-known-plan-2 : tie.Need-enum-known-plan-2
 enum-known-plan-2 c = search needs
 
--- src/lib.rt:284:27
 mul-counter : tie.Need-mul-counter
-mul-counter c = ?
+mul-counter c = let a = c .before .before .before .before .before .before .before .before .before .before .before .before .args in
+    let b = bookOf (a .ids .now) (a .lengths .now) (a .store .now) (a .received .now) (a .sent .now) (a .rows) in
+    let r = ready-facts b (a .id) (a .message .now) _ _ (sym (c .before .plan2 .given .1) ∙ c .before .before .before .planned .ensures) in
+    omega (arith, r .row .few)
 
--- src/lib.rt:284:27
 slice-read-counter : tie.Need-slice-read-counter
-slice-read-counter c = ?
+slice-read-counter c = let a = c .before .before .before .before .before .before .before .before .before .before .before .before .before .args in
+    let b = bookOf (a .ids .now) (a .lengths .now) (a .store .now) (a .received .now) (a .sent .now) (a .rows) in
+    let r = ready-facts b (a .id) (a .message .now) _ _ (sym (c .before .before .plan2 .given .1) ∙ c .before .before .before .before .planned .ensures) in
+    r .row .in-sent
 
--- src/lib.rt:284:27
 add-counter : tie.Need-add-counter
-add-counter c = ?
+add-counter c = let a = c .before .before .before .before .before .before .before .before .before .before .before .before .before .args in
+    let b = bookOf (a .ids .now) (a .lengths .now) (a .store .now) (a .received .now) (a .sent .now) (a .rows) in
+    let r = ready-facts b (a .id) (a .message .now) _ _ (sym (c .before .before .plan2 .given .1) ∙ c .before .before .before .before .planned .ensures) in
+    omega (arith, r .left, c .slice-known3 .given (c .before .before .plan2 .given .0 .1 .0))
 
--- src/lib.rt:285:24
 key-of-requires : tie.Need-key-of-requires
 key-of-requires c κs = search needs
 
--- src/lib.rt:285:13
 write-seal-requires : tie.Need-write-seal-requires
-write-seal-requires c κs = ?
+write-seal-requires c κs = let a = c .before .before .before .before .before .before .before .before .before .before .before .before .before .before .before .args in
+    let b = bookOf (a .ids .now) (a .lengths .now) (a .store .now) (a .received .now) (a .sent .now) (a .rows) in
+    let r = ready-facts b (a .id) (a .message .now) _ _ (sym (c .before .before .before .before .plan2 .given .1) ∙ c .before .before .before .before .before .before .planned .ensures) in
+    (r .full, omega (arith, ap length (c .before .key-of .ensures .0), r .row .key-short))
 
--- src/lib.rt:286:13
 mul-sent : tie.Need-mul-sent
-mul-sent c = ?
+mul-sent c = let a = c .before .before .before .before .before .before .before .before .before .before .before .before .before .before .before .before .before .before .args in
+    let b = bookOf (a .ids .now) (a .lengths .now) (a .store .now) (a .received .now) (a .sent .now) (a .rows) in
+    let r = ready-facts b (a .id) (a .message .now) _ _ (sym (c .before .before .before .before .before .before .before .plan2 .given .1) ∙ c .before .before .before .before .before .before .before .before .before .planned .ensures) in
+    omega (arith, r .row .few)
 
--- src/lib.rt:286:13
 slice-write-sent : tie.Need-slice-write-sent
-slice-write-sent c = ?
+slice-write-sent c = let a = c .before .before .before .before .before .before .before .before .before .before .before .before .before .before .before .before .before .before .args in
+    let b = bookOf (a .ids .now) (a .lengths .now) (a .store .now) (a .received .now) (a .sent .now) (a .rows) in
+    let r = ready-facts b (a .id) (a .message .now) _ _ (sym (c .before .before .before .before .before .before .before .plan2 .given .1) ∙ c .before .before .before .before .before .before .before .before .before .planned .ensures) in
+    r .row .in-sent
 
--- src/lib.rt:266:1
 same-length : tie.Need-same-length
 same-length c = search needs
 
--- src/lib.rt:266:1
 same-length-2 : tie.Need-same-length-2
 same-length-2 c = search needs
 
--- src/lib.rt:266:1
 returns : tie.Need-returns
-returns c = ?
+returns c = let a = c .before .before .before .before .before .before .before .before .before .before .before .before .args in
+    let b = bookOf (a .ids .now) (a .lengths .now) (a .store .now) (a .received .now) (a .sent .now) (a .rows) in
+    let e = seal-planned b (a .id) (a .message .now) _ (sym (c .before .plan .given .1) ∙ c .before .before .before .planned .ensures) in
+    (ap sealingOf e, (ap (λ (o : Outcome). messageAfter o (a .message .now)) e, ap (λ (o : Outcome). sentAfter o (a .sent .now)) e))
 
--- src/lib.rt:266:1
 same-length-3 : tie.Need-same-length-3
 same-length-3 c = search needs
 
--- src/lib.rt:266:1
 same-length-4 : tie.Need-same-length-4
 same-length-4 c = search needs
 
--- src/lib.rt:266:1
 returns-2 : tie.Need-returns-2
-returns-2 c = ?
+returns-2 c = let a = c .before .before .before .before .before .before .before .before .before .before .before .before .before .before .before .before .before .before .args in
+    let b = bookOf (a .ids .now) (a .lengths .now) (a .store .now) (a .received .now) (a .sent .now) (a .rows) in
+    let r = ready-facts b (a .id) (a .message .now) _ _ (sym (c .before .before .before .before .before .before .before .plan2 .given .1) ∙ c .before .before .before .before .before .before .before .before .before .planned .ensures) in
+    let e = seal-planned b (a .id) (a .message .now) _ (sym (c .before .before .before .before .before .before .before .plan2 .given .1) ∙ c .before .before .before .before .before .before .before .before .before .planned .ensures) in
+    (ap sealingOf e, (c .before .before .write-seal .ensures ∙ ap (λ (k : List ℕ). sealedMessage k (a .message .now) (c .before .before .before .before .before .before .before .plan2 .given .0 .0) (getD (a .sent .now) (c .before .before .before .before .before .before .before .plan2 .given .0 .1 .0) 0 + 1) (a .id)) (c .before .before .before .before .key-of .ensures .0) ∙ ap (λ (o : Outcome). messageAfter o (a .message .now)) e, ap (λ (o : Outcome). sentAfter o (a .sent .now)) e))
 
 pub seal-spec : {M : Type 1} → statement M
 seal-spec =
