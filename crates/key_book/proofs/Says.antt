@@ -168,7 +168,7 @@ module _ (b : Book) (k : ℕ) (w : Within b k) (t : getD (b .lengths) k 0 ≤ sl
   unfolding keyIn
   key-is = rw fits
 
-  key-long : length (keyOf b k) ≡ getD (b .lengths) k 0
+  pub key-long : length (keyOf b k) ≡ getD (b .lengths) k 0
   key-long =
       let i = w .in-store in
       ap length key-is ∙ length-take-le (getD (b .lengths) k 0) (drop (slotSize * k) (b .store)) (rw length-drop (omega arith))

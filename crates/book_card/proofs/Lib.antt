@@ -1,0 +1,7 @@
+pub mod Little
+mod Loops
+pub mod Shape
+pub mod Says
+mod Judging
+mod Writes
+mod Loads

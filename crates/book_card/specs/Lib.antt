@@ -1,0 +1,7 @@
+pub mod Stores
+pub mod Numbers
+pub mod Card
+pub mod Reader
+pub mod Reading
+pub mod Writing
+pub mod Laws
