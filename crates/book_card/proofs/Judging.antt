@@ -3,12 +3,12 @@ use mathlib.Core.Path.{_≡_, refl, sym, ap, ap₂, _∙_}
 use mathlib.Core.Logic.{_≢_}
 use mathlib.Core.Bool.{Bool, true, false, cond}
 use mathlib.Core.Option.{Option, none, some}
-use mathlib.Core.List.{List, [], _∷_}
-use Prim.Native.Nat.{ℕ, zero, suc, _+_, _-_, _^_, _≤_, _<_}
+use mathlib.Core.List.{List}
+use Prim.Native.Nat.{ℕ, suc, _+_, _-_, _^_, _≤_, _<_}
 use native.Mathlib.Nat.{add-zero}
 use native.Mathlib.Omega.{arith}
 use borrow.Author.Tests.{eq-eqb, ne-eqb, lt-ltb, le-ltb}
-use lib.Dec.{ltb, eqb}
+use lib.Dec.{ltb}
 use lib.ListN.{length, drop, length-drop}
 use lib.Seq.{drop-drop}
 use Rattle.key_book.specs.Limits.{rowsMost}
@@ -17,7 +17,6 @@ use Rattle.book_card.specs.Card.{Row}
 use Rattle.book_card.specs.Reader.{keyAt, closeSize, frontOf, rowFront, onto, stepFrom, readFrom, readCard, countedFrom}
 use Rattle.book_card.specs.declared.Front.{Front}
 use Rattle.book_card.specs.declared.Front.the-variants.{Broken, Row as RowFront, Close}
-use Rattle.book_card.specs.declared.Judged.{Judged}
 use Rattle.book_card.specs.declared.Judged.the-variants.{Malformed, Rows as Counted}
 use Rattle.book_card.proofs.Little.{bytes-drop}
 use Rattle.book_card.proofs.Shape.{GoodRow, FrontGood, front-good}

@@ -5,3 +5,5 @@ pub mod Says
 mod Judging
 mod Writes
 mod Loads
+pub mod Trips
+pub mod Computed

@@ -2,12 +2,12 @@
 use mathlib.Core.Path.{_≡_, refl, sym, ap, ap₂, _∙_}
 use mathlib.Core.Bool.{Bool, true, false}
 use mathlib.Core.List.{List, [], _∷_, _++_}
-use Prim.Native.Nat.{ℕ, zero, suc, _+_, _-_, _*_, _/_, _%_, _^_, _≤_, _<_}
-use native.Mathlib.Nat.{zero-add, pow-zero, pow-suc, pow-le-pow-right, div-lt-iff-lt-mul, mod-add-div, mod-lt, add-mul-mod-self-left, mod-eq-of-lt, add-mul-div-left, div-eq-of-lt}
+use Prim.Native.Nat.{ℕ, zero, suc, _+_, _*_, _/_, _%_, _^_, _≤_, _<_}
+use native.Mathlib.Nat.{zero-add, pow-zero, pow-suc, div-lt-iff-lt-mul, mod-add-div, mod-lt, add-mul-mod-self-left, mod-eq-of-lt, add-mul-div-left, div-eq-of-lt}
 use native.Mathlib.Omega.{arith}
 use borrow.Author.Tests.{ltb-true, ltb-false}
 use lib.Dec.{ltb}
-use lib.ListN.{length, getD, take, drop, replicate, length-drop, length-take, take-append-drop, List·getD-eq-default}
+use lib.ListN.{length, getD, take, drop, length-drop, length-take, take-append-drop, List·getD-eq-default}
 use lib.Seq.{drop-drop, getD-drop, getD-take, take-at, drop-at, length-take-le}
 use Rattle.book_card.specs.Numbers.{le, value, numberAt, Bytes}
 

@@ -1,29 +1,26 @@
 -- The second pass over a card, which sets the rows: what each turn keeps, and each end of `card_read`.
-use mathlib.Core.Path.{_≡_, refl, sym, ap, ap₂, _∙_}
-use mathlib.Core.Bool.{Bool, true, false, not, cond}
+use mathlib.Core.Path.{_≡_, refl, sym, ap, _∙_}
+use mathlib.Core.Bool.{Bool, true, false, not}
 use mathlib.Core.Option.{Option, none, some, Option·getD}
 use mathlib.Core.List.{List, [], _∷_, _++_, append-assoc, map}
 use Prim.Native.Nat.{ℕ, zero, suc, _+_, _-_, _*_, _≤_, _<_}
 use native.Mathlib.Nat.{zero-add, mul-suc}
 use native.Mathlib.Omega.{arith}
 use borrow.Author.Tests.{lt-ltb, le-ltb, not-true, not-false}
-use lib.Dec.{ltb}
-use lib.ListN.{length, getD, take, drop, set, replicate, length-append, length-drop, length-replicate, length-map, List·getD-map, drop-of-length-le}
+use lib.ListN.{length, getD, take, drop, set, replicate, length-append, length-drop, length-replicate, length-map, List·getD-map}
 use lib.Seq.{drop-cons, drop-drop, drop-at}
 use Rattle.refusal.specs.declared.Refusal.the-variants.{UnsoundBook, MalformedCard, NoRoomForRows}
-use Rattle.key_book.specs.Limits.{rowsMost, slotSize}
+use Rattle.key_book.specs.Limits.{slotSize}
 use Rattle.key_book.specs.Book.{Book, bookOf, Sized, sized}
 use Rattle.key_book.proofs.Says.{sized-says}
 use Rattle.book_card.specs.Numbers.{numberAt, Bytes}
-use Rattle.book_card.specs.Card.{lengthSize, idSize, counterSize, Row, rowRecord, rowRecords, close, cardOf, RowFits, noRow, InOrder}
+use Rattle.book_card.specs.Card.{lengthSize, idSize, counterSize, Row, rowRecord, rowRecords, close, cardOf, noRow, InOrder}
 use Rattle.book_card.specs.Reader.{bodyAt, receivedAt, sentAt, keyAt, readCard, countedFrom}
-use Rattle.book_card.specs.Reading.{slotOf, slotsOf, laid, loaded, readAs, readOf, rowsIn, readBy, readBook, rowsGiven}
+use Rattle.book_card.specs.Reading.{slotOf, slotsOf, laid, loaded, readAs, readOf, rowsIn, readBy, readBook}
 use Rattle.book_card.specs.Stores.{storedAt}
-use Rattle.book_card.specs.declared.Judged.{Judged}
 use Rattle.book_card.specs.declared.Judged.the-variants.{Malformed, Rows as Counted}
 use Rattle.book_card.specs.declared.ReadAnswer.{ReadAnswer}
 use Rattle.book_card.specs.declared.ReadAnswer.the-variants.{Refused, Rows}
-use Rattle.book_card.proofs.Little.{number-from}
 use Rattle.book_card.proofs.Loops.{Storing, storing-start, storing-run, storing-turn, storing-end}
 use Rattle.book_card.proofs.Shape.{here, there, RowRead, row-read}
 use Rattle.book_card.proofs.Says.{card-says}
@@ -80,7 +77,7 @@ module _ where
       let e = slot-length (r .key) (h 0 (omega arith)) in
       let past : (n : ℕ) → drop (slotSize * suc n) (slotOf (r .key) ++ slotsOf rows) ≡ drop (slotSize * n) (slotsOf rows) =
       λ n. ap (λ (m : ℕ). drop m (slotOf (r .key) ++ slotsOf rows)) (let q : slotSize * suc n ≡ slotSize + slotSize * n = omega arith in q)
-          ∙ sym (drop-drop (slotSize * n) slotSize (slotOf (r .key) ++ slotsOf rows)) ∙ ap (drop (slotSize * n)) (drop-at (slotOf (r .key)) (slotsOf rows) slotSize e) in
+      ∙ sym (drop-drop (slotSize * n) slotSize (slotOf (r .key) ++ slotsOf rows)) ∙ ap (drop (slotSize * n)) (drop-at (slotOf (r .key)) (slotsOf rows) slotSize e) in
       past k ∙ slots-at rows k (λ j m. h (suc j) (omega arith)) (omega arith) ∙ ap (λ (x : List ℕ). slotOf (getD rows k noRow .key) ++ x) (sym (past (suc k)))
 
 -- so many rows are set, from the card up to `at`; b is the book as lent, c as it is now
@@ -125,7 +122,7 @@ module _ (card : List ℕ) (n : ℕ) (q : CardRows card n) (b : Book) where
         lengths = storing-start _ (b .lengths) 0;
         store = storing-start _ (b .store) 0;
         received = storing-start _ (b .received) 0;
-        sent = storing-start _ (b .sent) 0
+        sent = storing-start _ (b .sent) 0;
       }
 
   module _ (c : Book) (at row : ℕ) (f : Filling card b c at row) (h : row < n) where
@@ -158,7 +155,7 @@ module _ (card : List ℕ) (n : ℕ) (q : CardRows card n) (b : Book) where
           id = there card at bodyAt idSize _ refl ∙ g .id;
           received = there card at receivedAt counterSize _ refl ∙ g .received;
           sent = there card at sentAt counterSize _ refl ∙ g .sent;
-          key = ap (take (length (r .key))) (sym (drop-drop keyAt at card)) ∙ g .key
+          key = ap (take (length (r .key))) (sym (drop-drop keyAt at card)) ∙ g .key;
         }
 
     pub filling-turn : (size id received sent : ℕ) (store₁ store₂ : List ℕ) → size ≡ length (r .key) → id ≡ r .id → received ≡ r .received → sent ≡ r .sent
@@ -192,7 +189,7 @@ module _ (card : List ℕ) (n : ℕ) (q : CardRows card n) (b : Book) where
           lengths = set-next (λ (r : Row). length (r .key)) refl rows (b .lengths) (c .lengths) row size lr es (f .lengths);
           store = rw (s₂, ← m₂) st;
           received = set-next (λ (r : Row). r .received) refl rows (b .received) (c .received) row received lr er (f .received);
-          sent = set-next (λ (r : Row). r .sent) refl rows (b .sent) (c .sent) row sent lr en (f .sent)
+          sent = set-next (λ (r : Row). r .sent) refl rows (b .sent) (c .sent) row sent lr en (f .sent);
         }
 
 -- a list set from the front is laid over the old one
@@ -256,14 +253,14 @@ module _ (card : List ℕ) (b c : Book) (at row : ℕ) (f : Filling card b c at 
         in-lengths = omega arith;
         in-store = omega arith;
         in-received = omega arith;
-        in-sent = omega arith
+        in-sent = omega arith;
       }
 
   pub filled : (v id received sent : ℕ) (store₁ store₂ : List ℕ) → v ≡ lengthField → id ≡ numberAt card (at + bodyAt) idSize → received ≡ numberAt card (at + receivedAt) counterSize
       → sent ≡ numberAt card (at + sentAt) counterSize → store₁ ≡ storedAt (c .store) (slotSize * row) (take (v - (keyAt - lengthSize)) (drop (at + keyAt) card))
       → store₂ ≡ storedAt store₁ (slotSize * row + (v - (keyAt - lengthSize))) (replicate (slotSize - (v - (keyAt - lengthSize))) 0)
       → Filling card b (bookOf (set (c .ids) row id) (set (c .lengths) row (v - (keyAt - lengthSize))) store₂ (set (c .received) row received) (set (c .sent) row sent) 0)
-        (at + keyAt + (v - (keyAt - lengthSize))) (row + 1)
+      (at + keyAt + (v - (keyAt - lengthSize))) (row + 1)
   filled v id received sent store₁ store₂ ev ei er es e₁ e₂ =
       let q = counted-rows card bytes n told in
       let x = next-row card n q b c at row f h in

@@ -1,17 +1,16 @@
 -- Writing a card: its size, what storing one field after another leaves, what each turn over the rows keeps, and each end of `card_write`.
 use mathlib.Core.Path.{_≡_, refl, sym, ap, ap₂, _∙_}
-use mathlib.Core.Bool.{Bool, true, false, not, cond}
-use mathlib.Core.List.{List, [], _∷_, _++_, append-assoc, append-nil}
+use mathlib.Core.Bool.{Bool, true, false, not}
+use mathlib.Core.List.{List, _++_, append-assoc}
 use Prim.Native.Nat.{ℕ, zero, suc, _+_, _-_, _*_, _≤_, _<_}
 use native.Mathlib.Nat.{add-zero, zero-add}
 use native.Mathlib.Omega.{arith}
 use borrow.Author.Tests.{lt-ltb, le-ltb, not-true, not-false}
-use lib.Dec.{ltb}
 use lib.ListN.{length, getD, take, drop, length-append}
 use lib.Seq.{sets-eq}
 use Rattle.refusal.specs.declared.Refusal.the-variants.{UnsoundBook, NoRoomForCard}
 use Rattle.key_book.specs.Limits.{rowsMost, slotSize}
-use Rattle.key_book.specs.Book.{Book, bookOf, Sound, sound, keyOf}
+use Rattle.key_book.specs.Book.{Book, bookOf, Sound, sound}
 use Rattle.key_book.specs.Laws.{Within}
 use Rattle.key_book.proofs.Says.{sound-says, rows-within, key-says, key-is, key-long}
 use Rattle.book_card.specs.Numbers.{le}
@@ -183,7 +182,7 @@ module _ (b : Book) (s : Sound b) (old : List ℕ) where
             long = ap length e ∙ stored-length new at (rowRecord (rowAt b row)) ∙ w .long;
             room = omega arith;
             rest = ap₂ (λ (x : List ℕ) (m : ℕ). storedAt x (at + m) (restOf b (row + 1))) e (en ∙ sym (row-length b s row h))
-                ∙ sym (stored-append (rowRecord (rowAt b row)) (restOf b (row + 1)) new at) ∙ ap (storedAt new at) (sym next) ∙ w .rest
+                ∙ sym (stored-append (rowRecord (rowAt b row)) (restOf b (row + 1)) new at) ∙ ap (storedAt new at) (sym next) ∙ w .rest;
           }
 
     module _ (h : b .rows ≤ row) where

@@ -1,7 +1,6 @@
 -- The card: the bytes of a book's rows, and which rows have a card (document 01, 'The card').
 -- A byte string is a card exactly when it is `cardOf` of rows that are `InOrder`; specs/Laws.antt states that the reader agrees.
-use mathlib.Core.Path.{_≡_}
-use Prim.Native.Nat.{ℕ, zero, suc, _+_, _*_, _^_, _≤_, _<_}
+use Prim.Native.Nat.{ℕ, _+_, _^_, _≤_, _<_}
 use mathlib.Core.List.{List, [], _∷_, _++_}
 use lib.ListN.{length, getD}
 use Rattle.key_book.specs.Limits.{rowsMost, slotSize}

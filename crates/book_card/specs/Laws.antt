@@ -1,7 +1,6 @@
 -- What is proved of cards, each as a closed statement: document 01, 'The card'. The proofs are in proofs/Says.antt and proofs/Trips.antt.
 use mathlib.Core.Path.{_≡_}
 use mathlib.Core.Logic.{_↔_}
-use mathlib.Core.Bool.{true}
 use mathlib.Core.Option.{none, some}
 use mathlib.Core.List.{List, [], _∷_, _++_}
 use Prim.Native.Nat.{ℕ, zero, suc, _+_, _*_, _≤_, _<_}

@@ -1,6 +1,6 @@
 -- The reader of a card, computed: what record stands in front, and the rows of a whole card.
 -- What it means is in specs/Card.antt; that it agrees is stated in specs/Laws.antt.
-use mathlib.Core.Bool.{Bool, true, false, cond}
+use mathlib.Core.Bool.{cond}
 use mathlib.Core.Option.{Option, none, some}
 use Prim.Native.Nat.{ℕ, zero, suc, _+_, _-_}
 use mathlib.Core.List.{List, [], _∷_}

@@ -1,5 +1,5 @@
 -- Reading a card into a lent book: the answer, and every lent list afterwards (document 01, 'The card').
-use mathlib.Core.Bool.{Bool, cond}
+use mathlib.Core.Bool.{cond}
 use mathlib.Core.Option.{Option, none, some, Option·getD}
 use mathlib.Core.List.{List, [], _∷_, _++_, map}
 use Prim.Native.Nat.{ℕ, _-_}

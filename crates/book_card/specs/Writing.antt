@@ -1,5 +1,5 @@
 -- Writing a book's card to a lent room: the answer, and every byte of the room afterwards (document 01, 'The card').
-use mathlib.Core.Bool.{Bool, cond}
+use mathlib.Core.Bool.{cond}
 use mathlib.Core.List.{List, [], _∷_, _++_}
 use Prim.Native.Nat.{ℕ, zero, suc, _+_}
 use lib.Dec.{ltb}

@@ -1,3 +1,4 @@
+-- `book_card::card_write` meets its contract: each end is one case of `writeOf`, with the room as `written` says (proofs/Writes.antt).
 use native.Mathlib.Omega.{arith}
 use denote.Ref.{now}
 use Rattle.key_book.specs.Book.{bookOf}
@@ -5,37 +6,25 @@ use Rattle.book_card.proofs.Writes.{told-sound, rows-in, size-is, write
 use borrow.Author.Needs.{needs}
 use Rattle.book_card.proofs.card_write.Statement.{statement}
 use Rattle.book_card.proofs.card_write.Tie as tie
-use Rattle.book_card.proofs.card_write.Reads as reads
-use Rattle.book_card.proofs.card_write.Lts as lts
-use Rattle.book_card.proofs.card_size.Reads as card-size-reads
-use Rattle.book_card.proofs.put_card.Reads as put-card-reads
-use Rattle.key_book.proofs.is_sound.Reads as is-sound-reads
 
--- src/lib.rt:354:9
 is-sound-requires : tie.Need-is-sound-requires
 is-sound-requires c κs = search needs
 
--- src/lib.rt:355:9
 returns : tie.Need-returns
 returns c = write-unsound (bookOf (now (c .before .before .before .before .before .before .before .before .args .ids)) (now (c .before .before .before .before .before .before .before .before .args .lengths)) (now (c .before .before .before .before .before .before .before .before .args .store)) (now (c .before .before .before .before .before .before .before .before .args .received)) (now (c .before .before .before .before .before .before .before .before .args .sent)) (c .before .before .before .before .before .before .before .before .args .rows)) _ _ (c .before .is-sound .ensures) (c .if1 .taken)
 
--- src/lib.rt:357:9
 card-size-requires : tie.Need-card-size-requires
 card-size-requires c κs = rows-in (bookOf (now (c .before .before .before .before .before .before .before .before .args .ids)) (now (c .before .before .before .before .before .before .before .before .args .lengths)) (now (c .before .before .before .before .before .before .before .before .args .store)) (now (c .before .before .before .before .before .before .before .before .args .received)) (now (c .before .before .before .before .before .before .before .before .args .sent)) (c .before .before .before .before .before .before .before .before .args .rows)) (told-sound (bookOf (now (c .before .before .before .before .before .before .before .before .args .ids)) (now (c .before .before .before .before .before .before .before .before .args .lengths)) (now (c .before .before .before .before .before .before .before .before .args .store)) (now (c .before .before .before .before .before .before .before .before .args .received)) (now (c .before .before .before .before .before .before .before .before .args .sent)) (c .before .before .before .before .before .before .before .before .args .rows)) _ (c .before .is-sound .ensures) (c .if1 .left))
 
--- src/lib.rt:359:9
 returns-2 : tie.Need-returns-2
 returns-2 c = write-no-room (bookOf (now (c .before .before .before .before .before .before .before .before .before .before .args .ids)) (now (c .before .before .before .before .before .before .before .before .before .before .args .lengths)) (now (c .before .before .before .before .before .before .before .before .before .before .args .store)) (now (c .before .before .before .before .before .before .before .before .before .before .args .received)) (now (c .before .before .before .before .before .before .before .before .before .before .args .sent)) (c .before .before .before .before .before .before .before .before .before .before .args .rows)) _ _ (c .before .before .before .is-sound .ensures) (c .before .before .if1 .left) _ (c .before .card-size .ensures) (search needs)
 
--- src/lib.rt:361:5
 put-card-requires : tie.Need-put-card-requires
 put-card-requires c κs = (told-sound (bookOf (now (c .before .before .before .before .before .before .before .before .before .before .before .args .ids)) (now (c .before .before .before .before .before .before .before .before .before .before .before .args .lengths)) (now (c .before .before .before .before .before .before .before .before .before .before .before .args .store)) (now (c .before .before .before .before .before .before .before .before .before .before .before .args .received)) (now (c .before .before .before .before .before .before .before .before .before .before .before .args .sent)) (c .before .before .before .before .before .before .before .before .before .before .before .args .rows)) _ (c .before .before .before .before .is-sound .ensures) (c .before .before .before .if1 .left), omega (arith, size-is (bookOf (now (c .before .before .before .before .before .before .before .before .before .before .before .args .ids)) (now (c .before .before .before .before .before .before .before .before .before .before .before .args .lengths)) (now (c .before .before .before .before .before .before .before .before .before .before .before .args .store)) (now (c .before .before .before .before .before .before .before .before .before .before .before .args .received)) (now (c .before .before .before .before .before .before .before .before .before .before .before .args .sent)) (c .before .before .before .before .before .before .before .before .before .before .before .args .rows)) (now (c .before .before .before .before .before .before .before .before .before .before .before .args .card)) _ (c .before .before .before .before .is-sound .ensures) (c .before .before .before .if1 .left) _ (c .before .before .card-size .ensures)))
 
--- src/lib.rt:342:1
 same-length : tie.Need-same-length
 same-length c = search needs
 
--- src/lib.rt:342:1
 returns-3 : tie.Need-returns-3
 returns-3 c = write-done (bookOf (now (c .before .before .before .before .before .before .before .before .before .before .before .before .before .before .args .ids)) (now (c .before .before .before .before .before .before .before .before .before .before .before .before .before .before .args .lengths)) (now (c .before .before .before .before .before .before .before .before .before .before .before .before .before .before .args .store)) (now (c .before .before .before .before .before .before .before .before .before .before .before .before .before .before .args .received)) (now (c .before .before .before .before .before .before .before .before .before .before .before .before .before .before .args .sent)) (c .before .before .before .before .before .before .before .before .before .before .before .before .before .before .args .rows)) _ _ (c .before .before .before .before .before .before .before .is-sound .ensures) (c .before .before .before .before .before .before .if1 .left) _ (c .before .before .before .before .before .card-size .ensures) (search needs) _ (c .before .before .put-card .ensures)
 

@@ -1,3 +1,4 @@
+-- `book_card::copy` meets its contract: each turn keeps `Storing`, that storing the rest gives the whole (proofs/Loops.antt). The measure is how many are left.
 use denote.Ref.{now}
 use borrow.Author.Needs.{needs}
 use native.Mathlib.Omega.{arith}
@@ -6,8 +7,6 @@ use lib.ListN.{take, drop}
 use Rattle.book_card.proofs.Loops.{Storing, storing-start, copying-turn, copying-end}
 use Rattle.book_card.proofs.copy.Statement.{statement}
 use Rattle.book_card.proofs.copy.Tie as tie
-use Rattle.book_card.proofs.copy.Reads as reads
-use Rattle.book_card.proofs.copy.Lts as lts
 
 abbrev Inv-loop : tie.InvT-loop
 Inv-loop from start count to₀ at i₀ to i = Storing (take count (drop start from)) to₀ at to i
@@ -15,43 +14,33 @@ Inv-loop from start count to₀ at i₀ to i = Storing (take count (drop start f
 abbrev μ-loop : tie.MeasureT-loop
 μ-loop from start count to₀ at i₀ to i = count - i
 
--- src/lib.rt:166:5
 loop-holds : tie.Need-loop-holds Inv-loop μ-loop
 loop-holds c = storing-start _ _ _
 
--- src/lib.rt:167:27
 add-to : tie.Need-add-to Inv-loop μ-loop
 add-to c = omega arith
 
--- src/lib.rt:167:22
 shared-slice-read-to : tie.Need-shared-slice-read-to Inv-loop μ-loop
 shared-slice-read-to c = omega arith
 
--- src/lib.rt:167:12
 add-to-2 : tie.Need-add-to-2 Inv-loop μ-loop
 add-to-2 c = omega arith
 
--- src/lib.rt:167:9
 slice-write-to : tie.Need-slice-write-to Inv-loop μ-loop
 slice-write-to c = omega arith
 
--- src/lib.rt:168:13
 add-i : tie.Need-add-i Inv-loop μ-loop
 add-i c = omega arith
 
--- src/lib.rt:166:5
 loop-less : tie.Need-loop-less Inv-loop μ-loop
 loop-less c = omega arith
 
--- src/lib.rt:166:5
 loop-again : tie.Need-loop-again Inv-loop μ-loop
 loop-again c = copying-turn (now (c .before .before .before .args .from)) (c .before .before .before .args .start) (c .before .before .before .args .count) (now (c .before .before .before .args .to)) (c .before .before .before .args .at) (search needs) _ _ (c .before .before .loop .inv) (search needs)
 
--- src/lib.rt:160:1
 same-length : tie.Need-same-length Inv-loop μ-loop
 same-length c = c .before .loop .inv .long
 
--- src/lib.rt:160:1
 returns : tie.Need-returns Inv-loop μ-loop
 returns c = copying-end (now (c .before .before .args .from)) (c .before .before .args .start) (c .before .before .args .count) (now (c .before .before .args .to)) (c .before .before .args .at) (search needs) _ _ (c .before .loop .inv) (search needs)
 
