@@ -29,14 +29,11 @@ use Rattle.book_card.proofs.Little.{bytes-append, bytes-le, bytes-take,
 use Rattle.book_card.proofs.Shape.{row-size, close-size}
 use Rattle.book_card.proofs.Says.{After, in-order-after, after-in-order, card-says}
 use Rattle.book_card.proofs.Writes.{rows-length}
-use Rattle.book_card.proofs.Loads.{slot-length, slots-length}
+use Rattle.book_card.proofs.Loads.{Fit, slot-length, slots-length}
 
 -- ---- the largest card
 
-abbrev KeysTo : List Row → Type 0
-KeysTo rows = (k : ℕ) → k < length rows → length (getD rows k noRow .key) ≤ slotSize
-
-records-most : (rows : List Row) → KeysTo rows → length (rowRecords rows) ≤ (keyAt + slotSize) * length rows
+records-most : (rows : List Row) → Fit rows → length (rowRecords rows) ≤ (keyAt + slotSize) * length rows
 unfolding rowRecords
 records-most [] h = omega arith
 records-most (r ∷ rows) h =
@@ -184,7 +181,7 @@ record Holds (c : Book) (k : ℕ) (rows : List Row) (i l s r n : List ℕ) : Typ
   pub received : drop k (c .received) ≡ map (λ (x : Row). x .received) rows ++ r
   pub sent : drop k (c .sent) ≡ map (λ (x : Row). x .sent) rows ++ n
 
-rows-held : (c : Book) (i l s r n : List ℕ) (rows : List Row) → KeysTo rows → (k : ℕ) → Holds c k rows i l s r n → rowsFrom c k (length rows) ≡ rows
+rows-held : (c : Book) (i l s r n : List ℕ) (rows : List Row) → Fit rows → (k : ℕ) → Holds c k rows i l s r n → rowsFrom c k (length rows) ≡ rows
 unfolding rowsFrom slotsOf slotOf
 rows-held c i l s r n [] f k h = refl
 rows-held c i l s r n (x ∷ rows) f k h =
@@ -230,7 +227,7 @@ laid-at f z rows old k h =
     List·getD-append (map f rows) (drop (length (map f rows)) old) 0 k (rw (length-map rows f) h) ∙ ap (getD (map f rows) k) (sym z) ∙ List·getD-map f rows k noRow
 
 module _ (b : Book) (z : Sized b) (rows : List Row) (o : InOrder rows) (room : length rows ≤ length (b .ids)) where
-  keys-to : KeysTo rows
+  keys-to : Fit rows
   keys-to k h = o .fit k h .key-to
 
   pub loaded-rows : rowsOf (loaded b rows) ≡ rows

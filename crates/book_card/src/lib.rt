@@ -7,9 +7,7 @@
 //   kind 2, the close: number of rows 4..6; it is the last record and nothing follows
 // There are at most ROWS_MOST rows, their ids ascend strictly, and the close's number is theirs.
 ghost use mathlib.Core.Path.{_≡_};
-ghost use mathlib.Core.Bool.{true};
-ghost use mathlib.Core.Option.{some};
-ghost use Prim.Native.Nat.{_+_, _*_, _<_, _≤_, _^_};
+ghost use Prim.Native.Nat.{_+_, _<_, _≤_, _^_};
 ghost use lib.ListN.{length, getD, take, drop, replicate};
 ghost use Rattle.book_card.specs.Stores.{storedAt};
 ghost use Rattle.key_book.specs.Limits.{slotSize, rowsMost};
@@ -24,6 +22,7 @@ use key_book::ROWS_MOST;
 use key_book::SLOT_SIZE;
 use refusal::Refusal;
 
+// Where a record's fields stand and how many bytes they have, as drawn above.
 const LENGTH_SIZE: usize = 2;
 
 const KIND_AT: usize = 2;
@@ -46,6 +45,7 @@ const COUNT_SIZE: usize = 2;
 
 const CLOSE_SIZE: usize = 6;
 
+// The kinds of record.
 const ROW_KIND: u64 = 1;
 
 const CLOSE_KIND: u64 = 2;
