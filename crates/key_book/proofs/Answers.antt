@@ -1,10 +1,10 @@
 -- The ends of `is_sound`, `row_of` and `key_of`: each is one case of its definition. The only file that unfolds `placeFrom`, `rowIn` and `keyFits`.
 use mathlib.Core.Path.{_≡_, refl, sym, ap, _∙_}
 use mathlib.Core.Logic.{_≢_}
-use mathlib.Core.Bool.{Bool, true, false, cond, _&&_}
-use mathlib.Core.List.{List, [], _∷_}
+use mathlib.Core.Bool.{false, cond}
+use mathlib.Core.List.{List, []}
 use mathlib.Core.Option.{Option, none, some}
-use Prim.Native.Nat.{ℕ, zero, suc, _+_, _-_, _*_, _/_, _≤_, _<_}
+use Prim.Native.Nat.{ℕ, suc, _+_, _-_, _*_, _/_, _≤_, _<_}
 use native.Mathlib.Nat.{zero-add, add-sub-cancel-left}
 use native.Mathlib.Numerals.{add-one}
 use native.Mathlib.Omega.{arith}
@@ -14,7 +14,6 @@ use lib.Dec.{eqb}
 use lib.Seq.{drop-cons, getD-take}
 use Rattle.key_book.specs.Limits.{slotSize}
 use Rattle.key_book.specs.Book.{placeFrom, rowIn, foundOf, keyFits, keyStart, keyIn, movedOn}
-use Rattle.key_book.specs.declared.Found.{Found}
 use Rattle.key_book.specs.declared.Found.the-variants.{At, Nothing}
 
 -- what `row_of` answers, taken back: the row of the definition

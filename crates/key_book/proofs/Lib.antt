@@ -2,4 +2,4 @@ mod Below
 mod Steps
 pub mod Answers
 pub mod Says
-mod Computed
+pub mod Computed

@@ -1,20 +1,19 @@
 -- The closed statements of specs/Laws.antt, proved: the computed tests by their parts, the row of an id by induction on the ids, the key of a row from `keyFits`.
 use mathlib.Core.Path.{_≡_, refl, sym, ap, _∙_}
-use mathlib.Core.Logic.{_↔_, _≢_, ⊎-elim}
-use mathlib.Core.Bool.{Bool, true, false, cond, _&&_, and-eq-true-iff, true≢false}
+use mathlib.Core.Logic.{_↔_, _≢_}
+use mathlib.Core.Bool.{Bool, true, false, cond, and-eq-true-iff}
 use mathlib.Core.List.{List, [], _∷_}
 use mathlib.Core.Option.{Option, none, some}
 use Prim.Native.Nat.{ℕ, zero, suc, _+_, _-_, _*_, _≤_, _<_}
-use native.Mathlib.Nat.{lt-irrefl}
 use native.Mathlib.Omega.{arith}
-use borrow.Author.Tests.{eq-eqb, ne-eqb, le-leb, lt-ltb, leb-true, eqb-true, eqb-false, ltb-true, ltb-false}
+use borrow.Author.Tests.{eq-eqb, le-leb, lt-ltb, leb-true, eqb-true, eqb-false, ltb-true, ltb-false}
 use lib.Dec.{leb, ltb, eqb}
 use lib.ListN.{length, getD, take, drop, length-take, length-drop}
 use lib.Seq.{getD-take, getD-drop, ext-getD, length-take-le}
-use Rattle.key_book.specs.Limits.{rowsMost, slotSize, roomMost}
-use Rattle.key_book.specs.Book.{Book, allBelow, Sized, Sound, sized, ascending, keySize, keySizes, sound, placeFrom, rowIn, rowOf, keyFits, keyStart, keyIn, keyOf}
-use Rattle.key_book.specs.Laws.{SizedSays, SoundSays, FirstRow, NoRow, RowSays, Within, RowsWithin, RowsDiffer, KeyOfRow, KeySays, Alike, SoundDepends, RowDepends, SameKey, KeyDepends}
-use Rattle.key_book.proofs.Below.{is-false, both, all-says, all-holds, all-alike, ascends}
+use Rattle.key_book.specs.Limits.{slotSize}
+use Rattle.key_book.specs.Book.{Book, allBelow, sized, ascending, keySize, keySizes, sound, placeFrom, rowIn, rowOf, keyFits, keyStart, keyIn, keyOf}
+use Rattle.key_book.specs.Laws.{SizedSays, SoundSays, FirstRow, NoRow, RowSays, Within, RowsWithin, RowsDiffer, KeySays, SoundDepends, RowDepends, KeyDepends}
+use Rattle.key_book.proofs.Below.{both, all-says, all-holds, all-alike, ascends}
 
 pub sized-says : SizedSays
 unfolding sized
@@ -168,7 +167,7 @@ module _ (b : Book) (k : ℕ) (w : Within b k) (t : getD (b .lengths) k 0 ≤ sl
   unfolding keyIn
   key-is = rw fits
 
-  key-long : length (keyOf b k) ≡ getD (b .lengths) k 0
+  pub key-long : length (keyOf b k) ≡ getD (b .lengths) k 0
   key-long =
       let i = w .in-store in
       ap length key-is ∙ length-take-le (getD (b .lengths) k 0) (drop (slotSize * k) (b .store)) (rw length-drop (omega arith))

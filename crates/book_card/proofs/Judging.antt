@@ -1,0 +1,111 @@
+-- The first pass over a card: what each turn keeps, and each of its ends.
+use mathlib.Core.Path.{_≡_, refl, sym, ap, ap₂, _∙_}
+use mathlib.Core.Logic.{_≢_}
+use mathlib.Core.Bool.{Bool, true, false, cond}
+use mathlib.Core.Option.{Option, none, some}
+use mathlib.Core.List.{List}
+use Prim.Native.Nat.{ℕ, suc, _+_, _-_, _^_, _≤_, _<_}
+use native.Mathlib.Nat.{add-zero}
+use native.Mathlib.Omega.{arith}
+use borrow.Author.Tests.{eq-eqb, ne-eqb, lt-ltb, le-ltb}
+use lib.Dec.{ltb}
+use lib.ListN.{length, drop, length-drop}
+use lib.Seq.{drop-drop}
+use Rattle.key_book.specs.Limits.{rowsMost}
+use Rattle.book_card.specs.Numbers.{Bytes}
+use Rattle.book_card.specs.Card.{Row}
+use Rattle.book_card.specs.Reader.{keyAt, closeSize, frontOf, rowFront, onto, stepFrom, readFrom, readCard, countedFrom}
+use Rattle.book_card.specs.declared.Front.{Front}
+use Rattle.book_card.specs.declared.Front.the-variants.{Broken, Row as RowFront, Close}
+use Rattle.book_card.specs.declared.Judged.the-variants.{Malformed, Rows as Counted}
+use Rattle.book_card.proofs.Little.{bytes-drop}
+use Rattle.book_card.proofs.Shape.{GoodRow, FrontGood, front-good}
+use Rattle.book_card.proofs.Says.{goOn, read-step}
+
+-- so many rows stand before `at`, and reading on from there gives the whole answer
+pub record Judging (card : List ℕ) (at rows low : ℕ) : Type 0 where
+  pub within : at ≤ length card
+  pub few : rows ≤ rowsMost
+  pub low-fits : low ≤ 2 ^ 32
+  pub rest : countedFrom rows (readFrom (rowsMost - rows) low rows (drop at card)) ≡ countedFrom 0 (readCard card)
+
+pub judging-start : (card : List ℕ) → Judging card 0 0 0
+unfolding readCard
+judging-start card = record { within = omega arith; few = omega arith; low-fits = omega arith; rest = refl }
+
+-- no row more: what is counted is malformed
+nothing-onto : (n : ℕ) (r : Row) (t : Bool) → Malformed ≡ countedFrom n (cond t none (onto r none))
+nothing-onto n r true = refl
+nothing-onto n r false = refl
+
+counted-onto : (n : ℕ) (r : Row) (o : Option (List Row)) → countedFrom (n + 1) o ≡ countedFrom n (onto r o)
+counted-onto n r none = refl
+counted-onto n r (some rows) = let e : n + 1 + length rows ≡ n + suc (length rows) = omega arith in ap Counted e
+
+module _ (card : List ℕ) (at rows low : ℕ) (j : Judging card at rows low) where
+  abbrev rest : List ℕ
+  rest = drop at card
+
+  on-front : (f : Front) → f ≡ frontOf rest → countedFrom rows (stepFrom (goOn (rowsMost - rows)) low rows rest f) ≡ countedFrom 0 (readCard card)
+  on-front f e = ap (λ (x : Front). countedFrom rows (stepFrom (goOn (rowsMost - rows)) low rows rest x)) e ∙ ap (countedFrom rows) (sym (read-step (rowsMost - rows) low rows rest)) ∙ j .rest
+
+  pub judged-broken : Broken ≡ frontOf rest → Malformed ≡ countedFrom 0 (readCard card)
+  judged-broken e = on-front Broken e
+
+  module _ (m : ℕ) (e : Close m ≡ frontOf rest) where
+    pub judged-longer : length card - at ≢ closeSize → Malformed ≡ countedFrom 0 (readCard card)
+    judged-longer h = rw (length-drop at card, ne-eqb (length card - at) closeSize h) at (on-front (Close m) e)
+
+    module _ (h : length card - at ≡ closeSize) where
+      pub judged-number : m ≢ rows → Malformed ≡ countedFrom 0 (readCard card)
+      judged-number k = rw (length-drop at card, eq-eqb (length card - at) closeSize h, ne-eqb m rows k) at (on-front (Close m) e)
+
+      pub judged-rows : m ≡ rows → Counted rows ≡ countedFrom 0 (readCard card)
+      judged-rows k = ap Counted (sym (add-zero rows)) ∙ (rw (length-drop at card, eq-eqb (length card - at) closeSize h, eq-eqb m rows k) at (on-front (Close m) e))
+
+  module _ (id size : ℕ) (e : RowFront id size ≡ frontOf rest) where
+    pub row-within : Bytes card → at + (keyAt + size) ≤ length card
+    unfolding FrontGood
+    row-within b =
+        let w = j .within in
+        let d = length-drop at card in
+        let g : GoodRow rest id size = rw (sym e) at (front-good rest (bytes-drop card b at)) in
+        let k = g .long in
+        omega arith
+
+    pub judged-many : rows ≡ rowsMost → Malformed ≡ countedFrom 0 (readCard card)
+    unfolding goOn
+    judged-many h =
+        let z : rowsMost - rows ≡ 0 = omega arith in
+        nothing-onto rows (rowFront rest size) (ltb id low)
+        ∙ ap (λ (n : ℕ). countedFrom rows (stepFrom (goOn n) low rows rest (RowFront id size))) (sym z) ∙ on-front (RowFront id size) e
+
+    module _ (h : rows ≢ rowsMost) where
+      pub judged-low : id < low → Malformed ≡ countedFrom 0 (readCard card)
+      judged-low l = rw (lt-ltb id low l) at (on-front (RowFront id size) e)
+
+      pub judging-turn : low ≤ id → Bytes card → Judging card (at + keyAt + size) (rows + 1) (id + 1)
+      unfolding FrontGood goOn
+      judging-turn l b =
+          let w = row-within b in
+          let f = j .few in
+          let g : GoodRow rest id size = rw (sym e) at (front-good rest (bytes-drop card b at)) in
+          let i = g .fits .id-fits in
+          let n = g .named in
+          let few : rows < rowsMost = omega arith in
+          let z : rowsMost - rows ≡ suc (rowsMost - (rows + 1)) = omega arith in
+          let p : at + (keyAt + size) ≡ at + keyAt + size = omega arith in
+          let q : suc rows ≡ rows + 1 = omega arith in
+          let r : suc id ≡ id + 1 = omega arith in
+          let o = readFrom (rowsMost - (rows + 1)) (suc id) (suc rows) (drop (keyAt + size) rest) in
+          let s : countedFrom rows (onto (rowFront rest size) o) ≡ countedFrom 0 (readCard card) =
+          ap (λ (t : Bool). countedFrom rows (cond t none (onto (rowFront rest size) o))) (sym (le-ltb id low l))
+          ∙ ap (λ (n : ℕ). countedFrom rows (stepFrom (goOn n) low rows rest (RowFront id size))) (sym z) ∙ on-front (RowFront id size) e in
+          record {
+            within = omega arith;
+            few = omega arith;
+            low-fits = omega arith;
+            rest = ap (λ (x : List ℕ). countedFrom (rows + 1) (readFrom (rowsMost - (rows + 1)) (id + 1) (rows + 1) x)) (ap (λ (n : ℕ). drop n card) (sym p) ∙ sym (drop-drop (keyAt + size) at card))
+                ∙ ap₂ (λ (x y : ℕ). countedFrom (rows + 1) (readFrom (rowsMost - (rows + 1)) x y (drop (keyAt + size) rest))) (sym r) (sym q)
+                ∙ counted-onto rows (rowFront rest size) o ∙ s;
+          }

@@ -1,0 +1,9 @@
+pub mod Little
+mod Loops
+pub mod Shape
+pub mod Says
+mod Judging
+mod Writes
+mod Loads
+pub mod Trips
+pub mod Computed

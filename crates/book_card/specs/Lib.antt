@@ -1,0 +1,8 @@
+pub mod Stores
+pub mod Numbers
+pub mod Card
+pub mod Reader
+pub mod Reading
+pub mod Writing
+pub mod Laws
+pub mod Examples

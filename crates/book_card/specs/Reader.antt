@@ -1,0 +1,78 @@
+-- The reader of a card, computed: what record stands in front, and the rows of a whole card.
+-- What it means is in specs/Card.antt; that it agrees is stated in specs/Laws.antt.
+use mathlib.Core.Bool.{cond}
+use mathlib.Core.Option.{Option, none, some}
+use Prim.Native.Nat.{ℕ, zero, suc, _+_, _-_}
+use mathlib.Core.List.{List, [], _∷_}
+use lib.Dec.{ltb, eqb}
+use lib.ListN.{length, take, drop}
+use Rattle.key_book.specs.Limits.{rowsMost, slotSize}
+use Rattle.book_card.specs.Numbers.{numberAt}
+use Rattle.book_card.specs.Card.{lengthSize, kindSize, idSize, counterSize, countSize, rowKind, closeKind, Row}
+use Rattle.book_card.specs.declared.Front.{Front}
+use Rattle.book_card.specs.declared.Front.the-variants.{Broken, Row as RowFront, Close}
+use Rattle.book_card.specs.declared.Judged.{Judged}
+use Rattle.book_card.specs.declared.Judged.the-variants.{Malformed, Rows as Counted}
+
+-- offsets in a record: the kind, and then a row's fields, or the close's number of rows
+abbrev pub kindAt : ℕ
+kindAt = lengthSize
+
+abbrev pub bodyAt : ℕ
+bodyAt = kindAt + kindSize
+
+abbrev pub receivedAt : ℕ
+receivedAt = bodyAt + idSize
+
+abbrev pub sentAt : ℕ
+sentAt = receivedAt + counterSize
+
+abbrev pub keyAt : ℕ
+keyAt = sentAt + counterSize
+
+-- the whole close
+abbrev pub closeSize : ℕ
+closeSize = bodyAt + countSize
+
+-- what stands in front, by its kind and its length field
+abbrev pub frontBy : List ℕ → ℕ → ℕ → Front
+frontBy s size kind =
+    cond (eqb kind closeKind) (cond (eqb size (closeSize - lengthSize)) (Close (numberAt s bodyAt countSize)) Broken)
+    (cond (eqb kind rowKind)
+    (cond (ltb size (keyAt - lengthSize + 1)) Broken
+    (cond (ltb (keyAt - lengthSize + slotSize) size) Broken (RowFront (numberAt s bodyAt idSize) (size - (keyAt - lengthSize))))) Broken)
+
+-- the record in front: broken where its length field or what it counts passes the end, or its length is not one of its kind
+unfoldable pub frontOf : List ℕ → Front
+frontOf s =
+    cond (ltb (length s) bodyAt) Broken
+    (cond (ltb (length s - lengthSize) (numberAt s 0 lengthSize)) Broken (frontBy s (numberAt s 0 lengthSize) (numberAt s kindAt kindSize)))
+
+-- the row in front, whose key has so many bytes
+abbrev pub rowFront : List ℕ → ℕ → Row
+rowFront s size =
+    record { id = numberAt s bodyAt idSize; received = numberAt s receivedAt counterSize; sent = numberAt s sentAt counterSize; key = take size (drop keyAt s) }
+
+abbrev pub onto : Row → Option (List Row) → Option (List Row)
+onto r none = none
+onto r (some rows) = some (r ∷ rows)
+
+-- one step of reading: `low` is the least id that may follow, `n` the rows before; `go` reads what follows a row
+abbrev pub stepFrom : (ℕ → ℕ → List ℕ → Option (List Row)) → ℕ → ℕ → List ℕ → Front → Option (List Row)
+stepFrom go low n s Broken = none
+stepFrom go low n s (Close m) = cond (eqb (length s) closeSize) (cond (eqb m n) (some []) none) none
+stepFrom go low n s (RowFront id size) = cond (ltb id low) none (onto (rowFront s size) (go (suc id) (suc n) (drop (keyAt + size) s)))
+
+-- what follows, where at most `left` rows may
+unfoldable pub readFrom : ℕ → ℕ → ℕ → List ℕ → Option (List Row)
+readFrom zero low n s = stepFrom (λ _ _ _. none) low n s (frontOf s)
+readFrom (suc left) low n s = stepFrom (readFrom left) low n s (frontOf s)
+
+-- the rows of a card, where the bytes are one
+unfoldable pub readCard : List ℕ → Option (List Row)
+readCard s = readFrom rowsMost 0 0 s
+
+-- the answer of the first pass, begun with n rows
+abbrev pub countedFrom : ℕ → Option (List Row) → Judged
+countedFrom n none = Malformed
+countedFrom n (some rows) = Counted (n + length rows)

@@ -1,0 +1,63 @@
+-- Reading a card into a lent book: the answer, and every lent list afterwards (document 01, 'The card').
+use mathlib.Core.Bool.{cond}
+use mathlib.Core.Option.{Option, none, some, Option·getD}
+use mathlib.Core.List.{List, [], _∷_, _++_, map}
+use Prim.Native.Nat.{ℕ, _-_}
+use lib.Dec.{ltb}
+use lib.ListN.{length, drop, replicate}
+use Rattle.refusal.specs.declared.Refusal.the-variants.{UnsoundBook, MalformedCard, NoRoomForRows}
+use Rattle.key_book.specs.Limits.{slotSize}
+use Rattle.key_book.specs.Book.{Book, bookOf, sized}
+use Rattle.book_card.specs.Card.{Row}
+use Rattle.book_card.specs.Reader.{readCard}
+use Rattle.book_card.specs.declared.ReadAnswer.{ReadAnswer}
+use Rattle.book_card.specs.declared.ReadAnswer.the-variants.{Refused, Rows}
+
+-- a row's slot in the key store: its key, and zeros after it
+unfoldable pub slotOf : List ℕ → List ℕ
+slotOf key = key ++ replicate (slotSize - length key) 0
+
+unfoldable pub slotsOf : List Row → List ℕ
+slotsOf [] = []
+slotsOf (r ∷ rows) = slotOf (r .key) ++ slotsOf rows
+
+-- a list whose first elements are these; the further ones unchanged
+unfoldable pub laid : List ℕ → List ℕ → List ℕ
+laid xs old = xs ++ drop (length xs) old
+
+-- a book with these rows, in use; further rows unchanged
+unfoldable pub loaded : Book → List Row → Book
+loaded b rows =
+    bookOf
+    (laid (map (λ (r : Row). r .id) rows) (b .ids))
+    (laid (map (λ (r : Row). length (r .key)) rows) (b .lengths))
+    (laid (slotsOf rows) (b .store))
+    (laid (map (λ (r : Row). r .received) rows) (b .received))
+    (laid (map (λ (r : Row). r .sent) rows) (b .sent))
+    (length rows)
+
+-- the answer by what the card holds, with room for so many rows: 15, then 17
+abbrev pub readAs : ℕ → Option (List Row) → ReadAnswer
+readAs room none = Refused MalformedCard
+readAs room (some rows) = cond (ltb room (length rows)) (Refused NoRoomForRows) (Rows (length rows))
+
+-- the answer: 1, then those. The row count of the lent book is not looked at
+unfoldable pub readOf : Book → List ℕ → ReadAnswer
+readOf b card = cond (sized b) (readAs (length (b .ids)) (readCard card)) (Refused UnsoundBook)
+
+-- the rows of a card; none where it is malformed
+unfoldable pub rowsIn : List ℕ → List Row
+rowsIn card = Option·getD (readCard card) []
+
+-- the lent book afterwards, by the answer: a refusal changes nothing
+abbrev pub readBy : Book → List ℕ → ReadAnswer → Book
+readBy b card (Refused x) = b
+readBy b card (Rows n) = loaded b (rowsIn card)
+
+unfoldable pub readBook : Book → List ℕ → Book
+readBook b card = readBy b card (readOf b card)
+
+-- how many rows an answer says are in use
+abbrev pub rowsGiven : ReadAnswer → ℕ
+rowsGiven (Refused x) = 0
+rowsGiven (Rows n) = n

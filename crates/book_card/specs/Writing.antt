@@ -1,0 +1,43 @@
+-- Writing a book's card to a lent room: the answer, and every byte of the room afterwards (document 01, 'The card').
+use mathlib.Core.Bool.{cond}
+use mathlib.Core.List.{List, [], _∷_, _++_}
+use Prim.Native.Nat.{ℕ, zero, suc, _+_}
+use lib.Dec.{ltb}
+use lib.ListN.{length, getD, drop}
+use Rattle.refusal.specs.declared.Refusal.the-variants.{UnsoundBook, NoRoomForCard}
+use Rattle.key_book.specs.Book.{Book, sound, keyOf}
+use Rattle.book_card.specs.Card.{Row, cardOf}
+use Rattle.book_card.specs.Reader.{keyAt, closeSize}
+use Rattle.book_card.specs.declared.WriteAnswer.{WriteAnswer}
+use Rattle.book_card.specs.declared.WriteAnswer.the-variants.{Refused, Size}
+
+-- row k of a book
+abbrev pub rowAt : Book → ℕ → Row
+rowAt b k = record { id = getD (b .ids) k 0; received = getD (b .received) k 0; sent = getD (b .sent) k 0; key = keyOf b k }
+
+-- n rows of a book, from row k
+unfoldable pub rowsFrom : Book → ℕ → ℕ → List Row
+rowsFrom b k zero = []
+rowsFrom b k (suc n) = rowAt b k ∷ rowsFrom b (suc k) n
+
+-- the rows in use
+unfoldable pub rowsOf : Book → List Row
+rowsOf b = rowsFrom b 0 (b .rows)
+
+-- the size of a book's card, by the key lengths of its rows
+unfoldable pub sizeTo : List ℕ → ℕ → ℕ
+sizeTo lengths zero = closeSize
+sizeTo lengths (suc k) = sizeTo lengths k + (keyAt + getD lengths k 0)
+
+-- the answer, with a room of so many bytes: 1, then 16
+unfoldable pub writeOf : Book → ℕ → WriteAnswer
+writeOf b room =
+    cond (sound b) (cond (ltb room (length (cardOf (rowsOf b)))) (Refused NoRoomForCard) (Size (length (cardOf (rowsOf b))))) (Refused UnsoundBook)
+
+-- the room afterwards, by the answer: a refusal changes nothing
+abbrev pub writtenBy : Book → List ℕ → WriteAnswer → List ℕ
+writtenBy b room (Refused x) = room
+writtenBy b room (Size n) = cardOf (rowsOf b) ++ drop n room
+
+unfoldable pub written : Book → List ℕ → List ℕ
+written b room = writtenBy b room (writeOf b (length room))
