@@ -1,2 +1,3 @@
 pub mod Stages
 pub mod Demand2
+pub mod Dependence

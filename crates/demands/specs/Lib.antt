@@ -1,3 +1,4 @@
 pub mod Accepts
 pub mod Demand2
 pub mod Demand3
+pub mod Dependence
