@@ -1,3 +1,6 @@
 pub mod Stages
 pub mod Demand2
 pub mod Dependence
+pub mod Channel
+pub mod Runs
+pub mod Steps

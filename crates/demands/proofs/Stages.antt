@@ -98,6 +98,32 @@ module _ (b : Book) (m : List ℕ) where
         check-sound s
         ∙ rw (a .form, a .secret, lt-ltb (getD (b .received) k 0) c (a .above), ← (a .right), equal-same (a .mac))
 
+  -- a message that says a counter not above the row's is a replay
+  pub replay-refused : Sound b → (c id k : ℕ) (mac : List ℕ) → saidOf m ≡ says c id mac → rowOf b id ≡ some k → c ≤ getD (b .received) k 0 → checkOf b m ≡ Refused Replay
+  unfolding judgedSaid judgedRow
+  replay-refused s c id k mac f e h = check-sound s ∙ rw (f, e, le-ltb (getD (b .received) k 0) c h)
+
+-- of the message a check reads what it says, and its image
+module _ (b : Book) (m n : List ℕ) (said : saidOf n ≡ saidOf m) (image : imageOf n ≡ imageOf m) where
+  same-row : (c : ℕ) (mac : List ℕ) (o : Option ℕ) → judgedRow b n c mac o ≡ judgedRow b m c mac o
+  unfolding judgedRow
+  same-row c mac none = refl
+  same-row c mac (some k) = rw image
+
+  same-said : (x : Said) → judgedSaid b n x ≡ judgedSaid b m x
+  unfolding judgedSaid
+  same-said (refused r) = refl
+  same-said (says c id mac) = same-row c mac (rowOf b id)
+
+  same-sound : (t : Bool) → judgedSound b n t ≡ judgedSound b m t
+  unfolding judgedSound
+  same-sound false = refl
+  same-sound true = rw said (same-said (saidOf m))
+
+  pub check-same : checkOf b n ≡ checkOf b m
+  unfolding checkOf
+  check-same = same-sound (sound b)
+
 -- ---- a seal
 
 -- what a sealing says of each stage
