@@ -4,3 +4,4 @@ pub mod Dependence
 pub mod Channel
 pub mod Runs
 pub mod Steps
+pub mod Demand3

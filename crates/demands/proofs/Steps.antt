@@ -111,10 +111,10 @@ pub sealed-at : (b : Book) (id : ℕ) (m : List ℕ) (k c : ℕ) (n : List ℕ) 
 sealed-at b id m k c n s e = sealed-by b id m k c n s e .secret
 
 -- an accepted message is a replay where the row's counter is at least its own
-pub replays : (a b : Book) (m : List ℕ) (k c : ℕ) → Sound a → SameRows a b → checkOf a m ≡ Accepted k c → c ≤ getD (b .received) k 0 → checkOf b m ≡ Refused Replay
-replays a b m k c s w e h =
-    let x = accepted-accepts a m k c s e in
-    replay-refused b m (sound-kept a b w s) c (x .id) k (x .mac) (x .form) (row-kept a b w (x .id) ∙ x .secret) h
+pub replays : (b₀ a b : Book) (m : List ℕ) (k c : ℕ) → Sound b₀ → SameRows b₀ a → SameRows b₀ b → checkOf a m ≡ Accepted k c → c ≤ getD (b .received) k 0 → checkOf b m ≡ Refused Replay
+replays b₀ a b m k c s v w e h =
+    let x = accepted-accepts a m k c (sound-kept b₀ a v s) e in
+    replay-refused b m (sound-kept b₀ b w s) c (x .id) k (x .mac) (x .form) (row-kept b₀ b w (x .id) ∙ sym (row-kept b₀ a v (x .id)) ∙ x .secret) h
 
 -- a message that demand 2 doesn't accept leaves the counters as they are
 pub not-accepted : (b : Book) (m : List ℕ) → Sound b → ((k c : ℕ) → Accepts b m k c → ⊥) → receivedAfter (checkOf b m) (b .received) ≡ b .received
