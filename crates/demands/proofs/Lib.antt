@@ -5,3 +5,4 @@ pub mod Channel
 pub mod Runs
 pub mod Steps
 pub mod Demand3
+pub mod Example3

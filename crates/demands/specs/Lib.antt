@@ -2,3 +2,4 @@ pub mod Accepts
 pub mod Demand2
 pub mod Demand3
 pub mod Dependence
+pub mod Example3
