@@ -6,3 +6,4 @@ pub mod Runs
 pub mod Steps
 pub mod Demand3
 pub mod Example3
+pub mod Woven

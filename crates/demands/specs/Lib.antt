@@ -3,3 +3,4 @@ pub mod Demand2
 pub mod Demand3
 pub mod Dependence
 pub mod Example3
+pub mod Woven
