@@ -153,6 +153,9 @@ module _ (b₀ : Book) where
     sure : (b : Book) → SameRows b₀ b → Sound b
     sure b h = sound-kept b₀ b h sound
 
+    pub sound-at : (run : List Step) (i : ℕ) → Sound (before b₀ run i)
+    sound-at run i = sure (before b₀ run i) (rows-at run i)
+
     -- ---- what a step reads and writes
 
     other : (b : Book) (s : Step) (c : Channel) → SameRows b₀ b → channel s ≢ some c → holds c (bookAfter b s) ≡ holds c b
@@ -227,7 +230,7 @@ module _ (b₀ : Book) where
           let w = made .put-in p l f in
           let b = before b₀ second p in
           rw (next-at b₀ second p (check (w .0)) (w .1))
-          (put-in-holds b (w .0) (not-accepted b (w .0) (sure b (rows-at second p)) (w .2)) c)
+          (put-in-holds b (w .0) (not-accepted b (w .0) (sound-at second p) (w .2)) c)
 
       ends : (c : Channel) → holds c (ending b₀ second) ≡ holds c (ending b₀ first)
       ends = same-ends channel holds (SameRows b₀) Alike local (Channel-discrete ℕ-discrete) b₀ (rows-refl b₀) first second place carries order extra
@@ -261,16 +264,19 @@ module _ (b₀ : Book) where
     checked-same : (v w : Verdict) → _≡_ {A = Option Answer} (some (checked v)) (some (checked w)) → v ≡ w
     checked-same v w e = cc
 
+    pub accepted-there : (run : List Step) (i : ℕ) (m : List ℕ) (k c : ℕ) → getElem? run i ≡ some (check m) → getElem? (answers b₀ run) i ≡ some (checked (Accepted k c)) → checkOf (before b₀ run i) m ≡ Accepted k c
+    accepted-there run i m k c e a = checked-same _ _ (sym (answer-at b₀ run i (check m) e) ∙ a)
+
     module _ (run : List Step) (i j : ℕ) (m : List ℕ) (k c : ℕ) (later : i < j) (at-i : getElem? run i ≡ some (check m)) (accepted : getElem? (answers b₀ run) i ≡ some (checked (Accepted k c))) where
-      accepted-there : checkOf (before b₀ run i) m ≡ Accepted k c
-      accepted-there = checked-same _ _ (sym (answer-at b₀ run i (check m) at-i) ∙ accepted)
+      accepted-i : checkOf (before b₀ run i) m ≡ Accepted k c
+      accepted-i = accepted-there run i m k c at-i accepted
 
       -- from then on the row's received counter is at least the accepted one
       pub held-after : j < length run → c ≤ getD (before b₀ run j .received) k 0
       held-after l =
           let b = before b₀ run i in
-          let w = accepted-at b m k c (sure b (rows-at run i)) accepted-there in
-          let stored : getD (before b₀ run (suc i) .received) k 0 ≡ c = rw (next-at b₀ run i (check m) at-i, accepted-there) (getD-set-same (b .received) k c 0 (w .inside)) in
+          let w = accepted-at b m k c (sound-at run i) accepted-i in
+          let stored : getD (before b₀ run (suc i) .received) k 0 ≡ c = rw (next-at b₀ run i (check m) at-i, accepted-i) (getD-set-same (b .received) k c 0 (w .inside)) in
           omega (
             arith,
             never-falls (λ (x : Book). getD (x .received) k 0) b₀ run (suc i) j later (le-of-lt l) (λ p s x y z. rises (before b₀ run p) s k (rows-at run p)),
@@ -282,7 +288,7 @@ module _ (b₀ : Book) where
           let b = before b₀ run j in
           answer-at b₀ run j (check n) at-j
           ∙ ap (λ (v : Verdict). some (checked v))
-          (check-relayed b m n q ∙ replays b₀ a b m k c sound (rows-at run i) (rows-at run j) accepted-there (held-after (lt-at run j (check n) at-j)))
+          (check-relayed b m n q ∙ replays b₀ a b m k c sound (rows-at run i) (rows-at run j) accepted-i (held-after (lt-at run j (check n) at-j)))
 
 pub demand-3 : Demand3
 demand-3 = record {

@@ -7,3 +7,4 @@ pub mod Steps
 pub mod Demand3
 pub mod Example3
 pub mod Woven
+pub mod LastCounter

@@ -4,3 +4,4 @@ pub mod Demand3
 pub mod Dependence
 pub mod Example3
 pub mod Woven
+pub mod LastCounter
