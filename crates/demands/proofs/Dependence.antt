@@ -145,8 +145,8 @@ module _ (a b : Book) (w : SameInUse a b) where
         soundness = sound-depends a b z;
         ids = ext-getD 0 (take (a .rows) (a .ids)) (take (b .rows) (b .ids)) (simp length-take (rw (z .same-rows, z .ids-size)))
             (λ i h.
-              let l : i < a .rows = omega (arith, length-take (a .rows) (a .ids)) in
-              getD-take (a .rows) (a .ids) i 0 l ∙ z .same-ids i l ∙ sym (getD-take (b .rows) (b .ids) i 0 (omega (arith, z .same-rows))));
+            let l : i < a .rows = omega (arith, length-take (a .rows) (a .ids)) in
+            getD-take (a .rows) (a .ids) i 0 l ∙ z .same-ids i l ∙ sym (getD-take (b .rows) (b .ids) i 0 (omega (arith, z .same-rows))));
       }
 
   same-key : (k : ℕ) → Sound a → k < a .rows → keyOf a k ≡ keyOf b k

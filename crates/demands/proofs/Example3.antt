@@ -34,7 +34,6 @@ is-sound : Sound book
 unfolding sound sized ascending keySizes allBelow
 is-sound = sound-says book .0 refl
 
-
 -- ---- the first run, step by step
 
 -- the book with these counters

@@ -44,10 +44,13 @@ same-equal (x ∷ xs) (y ∷ ys) e = on (λ f. same-equal xs ys f) (eqb x y) ref
     on more true f e = let h = eqb-true x y f in let t = more e in cc
     on more false f e = never cc
 
-pub equal-same : (xs : List ℕ) → sameBytes xs xs ≡ true
+same-itself : (xs : List ℕ) → sameBytes xs xs ≡ true
 unfolding sameBytes
-equal-same [] = refl
-equal-same (x ∷ xs) = rw (eq-eqb x x refl) (equal-same xs)
+same-itself [] = refl
+same-itself (x ∷ xs) = rw (eq-eqb x x refl) (same-itself xs)
+
+pub equal-same : (xs ys : List ℕ) → xs ≡ ys → sameBytes xs ys ≡ true
+equal-same xs ys e = rw (← e) (same-itself xs)
 
 -- a MAC has 16 bytes
 pub hmac-size : (key text : List ℕ) → length (hmac key text) ≡ macSize
@@ -73,13 +76,15 @@ module _ (b : Book) (m : List ℕ) where
         on true p true q h =
             let row : r ≡ k = cc in
             let counter : d ≡ c = cc in
+            let above : getD (b .received) k 0 < c = rw (← row, ← counter) (ltb-true _ _ p) in
+            let right : mac ≡ hmac (keyOf b k) (imageOf m) = rw (← row) (same-equal _ _ q) in
             record {
               id = id;
               mac = mac;
               form = f ∙ ap (λ (x : ℕ). says x id mac) counter;
               secret = e ∙ ap some row;
-              above = rw (← row, ← counter) (ltb-true _ _ p);
-              right = rw (← row) (same-equal _ _ q);
+              above = omega arith;
+              right = cc;
             }
         on true p false q h = never cc
         on false p right q h = never cc
@@ -96,7 +101,7 @@ module _ (b : Book) (m : List ℕ) where
     unfolding judgedSaid judgedRow
     accepts-accepted s a =
         check-sound s
-        ∙ rw (a .form, a .secret, lt-ltb (getD (b .received) k 0) c (a .above), ← (a .right), equal-same (a .mac))
+        ∙ rw (a .form, a .secret, lt-ltb (getD (b .received) k 0) c (a .above), equal-same (a .mac) (hmac (keyOf b k) (imageOf m)) (a .right))
 
   -- a message that says a counter not above the row's is a replay
   pub replay-refused : Sound b → (c id k : ℕ) (mac : List ℕ) → saidOf m ≡ says c id mac → rowOf b id ≡ some k → c ≤ getD (b .received) k 0 → checkOf b m ≡ Refused Replay
