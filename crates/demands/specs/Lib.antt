@@ -1,3 +1,7 @@
 pub mod Accepts
 pub mod Demand2
 pub mod Demand3
+pub mod Dependence
+pub mod Example3
+pub mod Woven
+pub mod LastCounter

@@ -1,0 +1,91 @@
+-- Demand 2, proved. What is accepted and what is sealed is read off the stages (proofs/Stages.antt). That what we seal passes: the sealed
+-- message says the counter and id that were written, and its image doesn't read the MAC's place, so the MAC of the image with zeros there
+-- is the MAC of the sealed message's own image.
+use mathlib.Core.Path.{_≡_, refl, sym, ap, _∙_}
+use mathlib.Core.List.{List, _++_}
+use mathlib.Core.Option.{some}
+use Prim.Native.Nat.{ℕ, _+_, _^_, _<_}
+use native.Mathlib.Omega.{arith}
+use lib.ListN.{length, getD, length-append}
+use Rattle.hmac_md5.specs.Hmac.{hmac}
+use Rattle.dhcp_message.specs.Layout.{macSize, sealSize}
+use Rattle.dhcp_message.specs.Bytes.{zeros}
+use Rattle.dhcp_message.specs.Said.{says, saidOf, formOf}
+use Rattle.dhcp_message.specs.Image.{imageOf}
+use Rattle.dhcp_message.specs.Seal.{fields, sealedWith}
+use Rattle.dhcp_message.specs.declared.Auth.{Auth}
+use Rattle.dhcp_message.specs.declared.Form.the-variants.{Full}
+use Rattle.dhcp_message.proofs.Seals.{seal-laws}
+use Rattle.key_book.specs.Book.{Book, Lent, Sound, rowOf, keyOf}
+use Rattle.delayed_auth.specs.Check.{checkOf, receivedAfter}
+use Rattle.delayed_auth.specs.Seal.{counterMost, sealed, sealedMessage, sealOf, sentAfter}
+use Rattle.demands.specs.Accepts.{Accepts, Seals}
+use Rattle.demands.specs.Demand2.{Demand2}
+use Rattle.demands.proofs.Stages.{hmac-size, accepted-accepts, accepts-accepted, SealedBy, sealed-by, by-sealed}
+
+-- ---- the image of a sealed message
+
+module _ (m : List ℕ) (a : Auth) (form : formOf m ≡ Full a) (c id : ℕ) where
+  -- whatever stands in the MAC's place
+  image-any : (x y : List ℕ) → length x ≡ macSize → length y ≡ macSize → imageOf (sealedWith a (fields c id ++ x) m) ≡ imageOf (sealedWith a (fields c id ++ y) m)
+  image-any x y h g = seal-laws .seals m a (fields c id ++ x) form (omega arith) .image (fields c id ++ y) (omega arith) refl
+
+  -- it says the counter, the id and the MAC that were written
+  says-written : (x : List ℕ) → length x ≡ macSize → c < 2 ^ 64 → id < 2 ^ 32 → saidOf (sealedWith a (fields c id ++ x) m) ≡ says c id x
+  says-written x h l g =
+      seal-laws .seals m a (fields c id ++ x) form (omega arith) .said
+      ∙ rw (seal-laws .counter-read c id x l, seal-laws .id-read c id x g, seal-laws .mac-read c id x)
+
+-- ---- what is sealed
+
+module _ (b : Book) (lent : Lent b) (id : ℕ) (m : List ℕ) (k c : ℕ) (n : List ℕ) where
+  by-seals : SealedBy b id m k c n → Seals b id m k c n
+  unfolding sealedMessage
+  by-seals w =
+      let a = w .auth in
+      let mac = hmac (keyOf b k) (imageOf (sealedWith a (fields c id ++ zeros macSize) m)) in
+      record {
+        auth = a;
+        mac = mac;
+        form = w .form;
+        secret = w .secret;
+        left = let u = w .unspent in omega (arith, lent .sent-fits k);
+        next = w .next;
+        bytes = w .message;
+        right = ap (hmac (keyOf b k)) (image-any m a (w .form) c id (zeros macSize) mac refl (hmac-size _ _) ∙ ap imageOf (sym (w .message)));
+      }
+
+  seals-by : Seals b id m k c n → SealedBy b id m k c n
+  unfolding sealedMessage
+  seals-by w =
+      let a = w .auth in
+      let size : length (w .mac) ≡ macSize = ap length (w .right) ∙ hmac-size _ _ in
+      record {
+        auth = a;
+        form = w .form;
+        secret = w .secret;
+        unspent = λ e. omega (arith, w .left);
+        next = w .next;
+        message = w .bytes
+            ∙ ap (λ (x : List ℕ). sealedWith a (fields c id ++ x) m)
+            (w .right ∙ ap (hmac (keyOf b k)) (ap imageOf (w .bytes) ∙ image-any m a (w .form) c id (w .mac) (zeros macSize) size refl));
+      }
+
+pub demand-2 : Demand2
+demand-2 = record {
+  accepted = λ b s m k c. (accepted-accepts b m k c s, accepts-accepted b m k c s);
+  stored = λ b s m k c a. rw (accepts-accepted b m k c s a);
+  sealed-when = λ b s l id m k c n. (λ e. by-seals b l id m k c n (sealed-by b id m k c n s e), λ w. by-sealed b id m k c n s (seals-by b l id m k c n w));
+  sent = λ b s l id m k c n w. rw (by-sealed b id m k c n s (seals-by b l id m k c n w));
+  passes = λ b d s l t id g m k c n e j r q u.
+      let w = by-seals b l id m k c n (sealed-by b id m k c n s e) in
+      let size : length (w .mac) ≡ macSize = ap length (w .right) ∙ hmac-size _ _ in
+      record {
+        id = id;
+        mac = w .mac;
+        form = ap saidOf (w .bytes) ∙ says-written m (w .auth) (w .form) c id (w .mac) size (omega (arith, w .left, w .next)) g;
+        secret = r;
+        above = u;
+        right = w .right ∙ ap (λ (x : List ℕ). hmac x (imageOf n)) (sym q);
+      };
+}

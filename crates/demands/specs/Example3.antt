@@ -1,0 +1,75 @@
+-- A second run of demand 3, worked out: neither `Rearranged` nor acceptance is empty. Two secrets; in the second run their checks have changed
+-- places and gone past the seal, both messages were relayed, one twice and with option 82 added, and a forged check was put in.
+-- The MACs are those of an outside implementation of HMAC-MD5. Its one proof is proofs/Example3.antt.
+use Prim.Native.Nat.{ℕ, zero, suc}
+use mathlib.Core.Path.{_≡_}
+use mathlib.Core.List.{List, [], _∷_, _++_}
+use lib.ListN.{length}
+use Rattle.refusal.specs.declared.Refusal.the-variants.{Replay}
+use Rattle.dhcp_message.specs.Layout.{cookieAt, magicCookie}
+use Rattle.dhcp_message.specs.Bytes.{zeros}
+use Rattle.dhcp_message.specs.Image.{headWith}
+use Rattle.dhcp_message.specs.Bench.{messageOf, fullAuth, someMac}
+use Rattle.key_book.specs.Book.{Book, Sound, bookOf}
+use Rattle.delayed_auth.specs.declared.Verdict.the-variants.{Accepted, Refused}
+use Rattle.delayed_auth.specs.declared.Sealing.the-variants.{Sealed}
+use Rattle.demands.specs.Demand3.{Step, check, seal, checked, wrote, answers, ending, Rearranged, SameRun}
+
+-- document 01's Book B with a second row: id 8, received 10, sent 3, key 5, 6, 7, 8
+abbrev pub book : Book
+book = bookOf (7 ∷ 8 ∷ []) (4 ∷ 4 ∷ []) (1 ∷ 2 ∷ 3 ∷ 4 ∷ (zeros 60 ++ (5 ∷ 6 ∷ 7 ∷ 8 ∷ zeros 60))) (10 ∷ 10 ∷ []) (3 ∷ 3 ∷ []) 2
+
+-- an option 90 with End behind it
+abbrev pub auth7 : List ℕ
+auth7 = fullAuth 1 11 7 (238 ∷ 152 ∷ 244 ∷ 219 ∷ 238 ∷ 91 ∷ 235 ∷ 63 ∷ 12 ∷ 64 ∷ 6 ∷ 168 ∷ 105 ∷ 48 ∷ 38 ∷ 105 ∷ [])
+
+abbrev pub auth8 : List ℕ
+auth8 = fullAuth 1 20 8 (55 ∷ 249 ∷ 179 ∷ 157 ∷ 219 ∷ 248 ∷ 59 ∷ 104 ∷ 64 ∷ 127 ∷ 126 ∷ 66 ∷ 169 ∷ 204 ∷ 163 ∷ 210 ∷ [])
+
+abbrev pub ended : List ℕ
+ended = 255 ∷ []
+
+-- option 82 right before End
+abbrev pub relayInfo : List ℕ
+relayInfo = 82 ∷ 3 ∷ 1 ∷ 1 ∷ 9 ∷ ended
+
+-- the messages as they were sent, and behind relays: hops and the last byte of giaddr
+abbrev pub sentMessage : List ℕ → List ℕ
+sentMessage option = messageOf (option ++ ended)
+
+abbrev pub relayedMessage : ℕ → ℕ → List ℕ → List ℕ
+relayedMessage hops giaddr options = headWith (hops ∷ []) (10 ∷ 0 ∷ 0 ∷ giaddr ∷ []) (zeros cookieAt ++ magicCookie) ++ options
+
+-- the message to seal holds another counter, id and MAC; they don't matter
+abbrev pub toSeal : List ℕ
+toSeal = sentMessage (fullAuth 1 9 9 someMac)
+
+abbrev pub sealedBytes : List ℕ
+sealedBytes = sentMessage (fullAuth 1 4 7 (156 ∷ 171 ∷ 28 ∷ 72 ∷ 208 ∷ 240 ∷ 202 ∷ 215 ∷ 14 ∷ 61 ∷ 13 ∷ 167 ∷ 40 ∷ 200 ∷ 138 ∷ 159 ∷ []))
+
+-- its counter is above the stored one, its MAC is not right
+abbrev pub forged : List ℕ
+forged = sentMessage (fullAuth 1 12 7 someMac)
+
+abbrev pub first : List Step
+first = check (sentMessage auth7) ∷ check (sentMessage auth8) ∷ seal 7 toSeal ∷ check (sentMessage auth7) ∷ []
+
+abbrev pub second : List Step
+second = seal 7 toSeal ∷ check forged ∷ check (relayedMessage 2 2 (auth8 ++ relayInfo)) ∷ check (relayedMessage 1 1 (auth7 ++ ended)) ∷ check (sentMessage auth7) ∷ []
+
+abbrev pub place : ℕ → ℕ
+place zero = 3
+place (suc zero) = 2
+place (suc (suc zero)) = 0
+place (suc (suc (suc i))) = 4
+
+pub record Example3 : Type 0 where
+  pub is-sound : Sound book
+  -- in the first run both checks are accepted, the seal writes counter 4 under id 7, and the message checked again is a replay
+  pub first-answers : answers book first ≡ checked (Accepted 0 11) ∷ checked (Accepted 1 20) ∷ wrote (Sealed 4) sealedBytes ∷ checked (Refused Replay) ∷ []
+  pub first-received : ending book first .received ≡ 11 ∷ 20 ∷ []
+  pub first-sent : ending book first .sent ≡ 4 ∷ 3 ∷ []
+  -- the network can make the second run of it
+  pub made : Rearranged book first second place
+  -- so demand 3 says that its answers and its end are the same
+  pub same-run : SameRun book first second place
