@@ -9,7 +9,9 @@ const LIBRARY: &str = "libc_api.a";
 
 fn main() {
     println!("cargo:rerun-if-env-changed=RIMEMAGPIE_LIB_DIR");
-    let tests = Path::new(env!("CARGO_MANIFEST_DIR")).join("..");
+    let tests = Path::new(env!("CARGO_MANIFEST_DIR"))
+        .parent()
+        .expect("this crate is in tests/");
     let named = env::var("RIMEMAGPIE_LIB_DIR").unwrap_or("../target/staticlib".to_string());
     let folder = tests.join(named);
     let library = folder.join(LIBRARY);

@@ -236,16 +236,13 @@ fn shuffled(random: &mut Random, steps: &[Step]) -> Vec<usize> {
     let mut order: Vec<usize> = (0..steps.len()).collect();
     random.shuffle(&mut order);
     let mut taken = vec![false; steps.len()];
-    for place in 0..order.len() {
-        let drawn = order[place];
-        let step = match channels[drawn] {
-            Channel::Free => drawn,
-            _ => (0..steps.len())
-                .find(|i| !taken[*i] && channels[*i] == channels[drawn])
-                .expect("a channel has as many places as steps"),
-        };
-        taken[step] = true;
-        order[place] = step;
+    for step in &mut order {
+        if channels[*step] != Channel::Free {
+            *step = (0..steps.len())
+                .find(|i| !taken[*i] && channels[*i] == channels[*step])
+                .expect("a channel has as many places as steps");
+        }
+        taken[*step] = true;
     }
     order
 }

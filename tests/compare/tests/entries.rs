@@ -233,7 +233,29 @@ fn card_read_case(random: &mut Random, book: &Book, card: &[u8]) -> Result<u8, D
     same("rows", &result, &rows)?;
     lent.holds(&book_after)?;
     lent_card.holds("card", card)?;
+    if number == 0 {
+        written_again(&book_after, rows as usize, card)?;
+    }
     Ok(number)
+}
+
+/// A card just read is written with the same bytes.
+fn written_again(book: &Book, rows: usize, card: &[u8]) -> Result<(), Difference> {
+    let mut room = vec![0; card.len()];
+    let mut size = 0;
+    let number = c::card_write(
+        &book.ids,
+        &book.key_lengths,
+        &book.key_store,
+        &book.received,
+        &book.sent,
+        rows,
+        &mut room,
+        &mut size,
+    );
+    same("the number on writing it again", &0, &number)?;
+    same("its size", &(card.len() as u64), &size)?;
+    same_items("the card written again", card, &room)
 }
 
 /// Room to read a card into: too little, just enough, more, as much as there may be, or of sizes that disagree. What

@@ -482,11 +482,9 @@ fn spoil_bytes(random: &mut Random, message: &mut Vec<u8>, fault: Fault) {
                 message[at] ^= 1 << random.below(8);
             }
         }
-        Fault::AnyBit => {
-            if !message.is_empty() {
-                let at = random.below(message.len());
-                message[at] ^= 1 << random.below(8);
-            }
+        Fault::AnyBit if !message.is_empty() => {
+            let at = random.below(message.len());
+            message[at] ^= 1 << random.below(8);
         }
         _ => {}
     }
