@@ -1,5 +1,5 @@
-//! Links the proved library, libc_api.a. It is looked for in target/staticlib at the top of the repository, or in
-//! the folder that RIMEMAGPIE_LIB_DIR names (a relative one is taken from tests/).
+//! Links the proved library, libc_api.a. It is looked for in target/staticlib, or in the folder
+//! that RIMEMAGPIE_LIB_DIR names; a relative folder is taken from the top of the repository.
 
 use std::env;
 use std::path::Path;
@@ -9,11 +9,10 @@ const LIBRARY: &str = "libc_api.a";
 
 fn main() {
     println!("cargo:rerun-if-env-changed=RIMEMAGPIE_LIB_DIR");
-    let tests = Path::new(env!("CARGO_MANIFEST_DIR"))
-        .parent()
-        .expect("this crate is in tests/");
-    let named = env::var("RIMEMAGPIE_LIB_DIR").unwrap_or("../target/staticlib".to_string());
-    let folder = tests.join(named);
+    let named = env::var("RIMEMAGPIE_LIB_DIR").unwrap_or("target/staticlib".to_string());
+    let folder = Path::new(env!("CARGO_MANIFEST_DIR"))
+        .join("../..")
+        .join(named);
     let library = folder.join(LIBRARY);
     if !library.is_file() {
         eprintln!("The library is not at {}.", library.display());

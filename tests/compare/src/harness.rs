@@ -1,5 +1,5 @@
-//! Runs a comparison on many cases, counts the numbers that came up, prints them, and fails when one that can come up
-//! never did.
+//! Runs a comparison on many cases, counts the numbers that came up, prints them, and fails when
+//! one that can come up never did.
 
 use crate::random::Random;
 use reference::examples::hex;
@@ -32,8 +32,8 @@ fn from_environment(name: &str, default: u64) -> u64 {
     }
 }
 
-/// Compares one entry on all its cases. A case gives the number that both implementations returned, or what differed;
-/// `reachable` is each number that must have come up.
+/// Compares one entry on all its cases. A case gives the number that both implementations returned,
+/// or what differed; `reachable` is each number that must have come up.
 pub fn compare(
     entry: &str,
     reachable: &[u8],

@@ -1,5 +1,5 @@
-//! Buffers as they are lent to the library: each stands between guard items, at any alignment its type allows, and is
-//! compared whole with what it should hold, guards included.
+//! Buffers as they are lent to the library: each stands between guard items, at any alignment its
+//! type allows, and is compared whole with what it should hold, guards included.
 
 use crate::harness::{same, same_items, Difference};
 use crate::random::Random;

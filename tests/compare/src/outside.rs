@@ -1,4 +1,5 @@
-//! What stands outside Rust: the repository's files, the built library and program, temporary folders, and commands.
+//! What stands outside Rust: the repository's files, the built library and program, temporary
+//! folders, and commands.
 
 use std::env;
 use std::fs;
@@ -6,38 +7,27 @@ use std::path::{Path, PathBuf};
 use std::process::{Command, Output};
 use std::sync::atomic::{AtomicUsize, Ordering};
 
-/// The folder tests/.
-fn tests_folder() -> PathBuf {
-    let crate_folder = Path::new(env!("CARGO_MANIFEST_DIR"));
-    crate_folder
-        .parent()
-        .expect("this crate is in tests/")
-        .to_path_buf()
-}
-
 /// A file of the repository, by its path from the top.
 pub fn repository_file(path: &str) -> PathBuf {
-    tests_folder().join("..").join(path)
+    Path::new(env!("CARGO_MANIFEST_DIR"))
+        .join("../..")
+        .join(path)
 }
 
 /// The static library.
 pub fn static_library() -> PathBuf {
-    built(
-        "RIMEMAGPIE_LIB_DIR",
-        "../target/staticlib",
-        Some("libc_api.a"),
-    )
+    built("RIMEMAGPIE_LIB_DIR", "target/staticlib", Some("libc_api.a"))
 }
 
 /// The program judge.
 pub fn judge() -> PathBuf {
-    built("RIMEMAGPIE_JUDGE", "../target/bin/judge", None)
+    built("RIMEMAGPIE_JUDGE", "target/bin/judge", None)
 }
 
 /// Something that must have been built first, where the variable says or else at its usual place.
 fn built(variable: &str, usual: &str, file: Option<&str>) -> PathBuf {
     let named = env::var(variable).unwrap_or(usual.to_string());
-    let mut path = tests_folder().join(named);
+    let mut path = repository_file(&named);
     path.extend(file);
     assert!(
         path.is_file(),

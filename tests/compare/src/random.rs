@@ -1,5 +1,5 @@
-//! A seeded source of numbers: SplitMix64 (Steele, Lea and Flood, 2014). The same seed gives the same numbers on every
-//! machine, so a case that fails can be had again by its number.
+//! A seeded source of numbers: SplitMix64 (Steele, Lea and Flood, 2014). The same seed gives the
+//! same numbers on every machine, so a case that fails can be had again by its number.
 
 use std::ops::RangeInclusive;
 

@@ -1,7 +1,9 @@
-//! Runs of checks and seals, and second runs as the network may make them (document 00, demand 3; document 01, 'Runs').
+//! Runs of checks and seals, and second runs as the network may make them (document 00, demand 3;
+//! document 01, 'Runs').
 //!
-//! In a second run, checks that name one secret keep their order and so do seals under one secret; all else is
-//! shuffled, checked messages are relay-changed, and checks that are refused where they stand are put in.
+//! In a second run, checks that name one secret keep their order and so do seals under one secret;
+//! all else is shuffled, checked messages are relay-changed, and checks that are refused where they
+//! stand are put in.
 
 use crate::generate::{messages, relays};
 use crate::random::Random;
@@ -108,7 +110,8 @@ pub fn run<I: Implementation>(start: &Book, steps: &[Step]) -> Outcome {
     Outcome { answers, book }
 }
 
-/// A random run from a book: messages it accepts, messages sealed in the run, messages seen before, and any others.
+/// A random run from a book: messages it accepts, messages sealed in the run, messages seen before,
+/// and any others.
 pub fn first_run(random: &mut Random, start: &Book) -> Vec<Step> {
     let mut book = start.clone();
     let mut steps: Vec<Step> = Vec::new();
@@ -191,7 +194,8 @@ impl SecondRun {
     }
 }
 
-/// A random second run. What is put in must be refused where it stands, so the run is made along the book it meets.
+/// A random second run. What is put in must be refused where it stands, so the run is made along
+/// the book it meets.
 pub fn second_run(random: &mut Random, start: &Book, first: &[Step]) -> SecondRun {
     let mut book = start.clone();
     let mut second = SecondRun {
@@ -229,8 +233,8 @@ fn channel(step: &Step) -> Channel {
     }
 }
 
-/// The steps' numbers in a random order that keeps each channel's: all are shuffled, and then each channel's steps
-/// take the places that its steps got, in their first order.
+/// The steps' numbers in a random order that keeps each channel's: all are shuffled, and then each
+/// channel's steps take the places that its steps got, in their first order.
 fn shuffled(random: &mut Random, steps: &[Step]) -> Vec<usize> {
     let channels: Vec<Channel> = steps.iter().map(channel).collect();
     let mut order: Vec<usize> = (0..steps.len()).collect();
@@ -267,7 +271,8 @@ fn message_of(step: &Step) -> &[u8] {
     }
 }
 
-/// Puts in no, one or more checks that the book refuses as it is: messages of this run again, or any others.
+/// Puts in no, one or more checks that the book refuses as it is: messages of this run again, or
+/// any others.
 fn put_in_checks(random: &mut Random, second: &mut SecondRun, book: &Book) {
     for _ in 0..random.pick(&[0, 0, 1, 2]) {
         let candidate = match random.below(2) {
@@ -319,4 +324,40 @@ pub fn replays<'a>(steps: &[Step], answers: &'a [Answer]) -> Vec<&'a Answer> {
         }
     }
     again
+}
+
+#[cfg(test)]
+mod tests {
+    use super::*;
+    use crate::generate::books;
+    use reference::message::covered_image;
+
+    /// A second run has every step once, in its channel's order, and relayed messages keep what the
+    /// MAC covers.
+    #[test]
+    fn second_runs_are_as_demand_3_allows() {
+        let mut random = Random::new(6);
+        for _ in 0..500 {
+            let book = books::sound_with_a_row(&mut random);
+            let first = first_run(&mut random, &book);
+            let second = second_run(&mut random, &book, &first);
+            for (i, step) in first.iter().enumerate() {
+                let there = &second.steps[second.places[i]];
+                assert_eq!(covered(there), covered(step));
+                assert!(channel(there) == channel(step));
+                for (j, later) in first.iter().enumerate().skip(i + 1) {
+                    assert_ne!(second.places[i], second.places[j]);
+                    let bound = channel(step) != Channel::Free && channel(step) == channel(later);
+                    assert!(!bound || second.places[i] < second.places[j]);
+                }
+            }
+        }
+    }
+
+    /// What the MAC covers, of a message in full form.
+    fn covered(step: &Step) -> Option<Vec<u8>> {
+        let message = message_of(step);
+        let shape = full_form(message).ok()?;
+        Some(covered_image(message, &shape))
+    }
 }

@@ -1,5 +1,5 @@
-//! Each entry of the C interface beside the second implementation: the number returned, the places of results, and all
-//! lent buffers whole after every call, refused ones too.
+//! Each entry of the C interface beside the second implementation: the number returned, the places
+//! of results, and all lent buffers whole after every call, refused ones too.
 
 use compare::generate::{books, cards, messages};
 use compare::harness::{compare, on_bytes, same, same_items, Difference};
@@ -258,8 +258,8 @@ fn written_again(book: &Book, rows: usize, card: &[u8]) -> Result<(), Difference
     same_items("the card written again", card, &room)
 }
 
-/// Room to read a card into: too little, just enough, more, as much as there may be, or of sizes that disagree. What
-/// it holds before is a book's.
+/// Room to read a card into: too little, just enough, more, as much as there may be, or of sizes
+/// that disagree. What it holds before is a book's.
 fn room_for_card(random: &mut Random, card: &[u8]) -> Book {
     let rows = rows_of_card(card).map_or(3, |rows| rows.len());
     let room = match random.below(20) {
@@ -317,7 +317,8 @@ fn card_write_case(random: &mut Random, book: &Book) -> Result<u8, Difference> {
     Ok(number)
 }
 
-/// Room for the book's card: a byte too little, just enough, more, or any. It holds anything before.
+/// Room for the book's card: a byte too little, just enough, more, or any. It holds anything
+/// before.
 fn room_to_write(random: &mut Random, book: &Book) -> Vec<u8> {
     let keys = book.key_lengths.iter().take(book.rows);
     let size = 6 + keys.map(|length| 24 + usize::from(*length)).sum::<usize>();

@@ -1,5 +1,6 @@
-//! The program `judge` on files in a folder of its own: every answer that files can bring about, files that are missing,
-//! empty, at the limit and above it, a folder in place of a file, and that it leaves all of them as they were.
+//! The program `judge` on files in a folder of its own: every answer that files can bring about,
+//! files that are missing, empty, at the limit and above it, a folder in place of a file, and that
+//! it leaves all of them as they were.
 
 use compare::generate::{books, cards, messages};
 use compare::harness::{for_each_case, same, Tally};
@@ -72,7 +73,8 @@ fn judged_files(card: &[u8], message: &[u8]) -> String {
     judged(At::File(card), At::File(message))
 }
 
-/// Bench example 9, put right. Judged again it is accepted again, since the card is not written back.
+/// Bench example 9, put right. Judged again it is accepted again, since the card is not written
+/// back.
 #[test]
 fn accepted() {
     let folder = Folder::new();

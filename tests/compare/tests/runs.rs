@@ -1,6 +1,6 @@
-//! Demand 3 on random runs: every step of the first run gets the same answer in a second run that the network can make
-//! of it, sealed messages have the same bytes, the counters end the same, and an accepted message checked again is
-//! refused with 11. Both implementations do both runs.
+//! Demand 3 on random runs: every step of the first run gets the same answer in a second run that
+//! the network can make of it, sealed messages have the same bytes, the counters end the same, and
+//! an accepted message checked again is refused with 11. Both implementations do both runs.
 
 use compare::generate::books;
 use compare::harness::{cases, for_each_case, same, say, Difference};
@@ -57,7 +57,8 @@ fn book(random: &mut Random) -> Book {
     }
 }
 
-/// A run on both implementations, which must agree in every answer and in the whole book at the end.
+/// A run on both implementations, which must agree in every answer and in the whole book at the
+/// end.
 fn both(book: &Book, steps: &[Step]) -> Result<Outcome, Difference> {
     let expected = run::<Reference>(book, steps);
     let found = run::<Library>(book, steps);
@@ -68,8 +69,8 @@ fn both(book: &Book, steps: &[Step]) -> Result<Outcome, Difference> {
     Ok(found)
 }
 
-/// Every step of the first run has the same answer in the second, what was put in is refused, and the book ends the
-/// same.
+/// Every step of the first run has the same answer in the second, what was put in is refused, and
+/// the book ends the same.
 fn agree(first: &Outcome, second: &SecondRun, outcome: &Outcome) -> Result<(), Difference> {
     for (i, place) in second.places.iter().enumerate() {
         let what = format!("the answer of step {i}, at {place} in the second run");
@@ -110,16 +111,12 @@ impl Seen {
 
     fn print(&self) {
         say(&format!(
-            "runs: {} with {} accepted, {} sealed, {} refused; second runs: {} out of order, {} relayed, {} put in; \
-             {} replays",
-            self.runs,
-            self.accepted,
-            self.sealed,
-            self.refused,
-            self.moved,
-            self.relayed,
-            self.put_in,
-            self.replayed
+            "runs: {} ({} accepted, {} sealed, {} refused)",
+            self.runs, self.accepted, self.sealed, self.refused
+        ));
+        say(&format!(
+            "second runs: {} steps moved, {} relayed, {} put in; {} replays in both",
+            self.moved, self.relayed, self.put_in, self.replayed
         ));
     }
 

@@ -1,5 +1,6 @@
-//! Every value of one thing at a time, where there are few enough to try them all: each bit of a message and of a card,
-//! each length of a digest, of a message, of option 90 and of option 82. No number is drawn here.
+//! Every value of one thing at a time, where there are few enough to try them all: each bit of a
+//! message and of a card, each length of a digest, of a message, of option 90 and of option 82. No
+//! number is drawn here.
 
 use compare::runs::{Implementation, Library, Reference};
 use reference::auth::sign;

@@ -1,4 +1,5 @@
-//! The Rust wrapper beside the second implementation: what it makes of the numbers and places of the C interface.
+//! The Rust wrapper beside the second implementation: what it makes of the numbers and places of
+//! the C interface.
 
 use compare::generate::{books, cards, messages};
 use compare::harness::{cases, for_each_case, same, Difference};

@@ -1,8 +1,10 @@
-//! The C interface (include/rimemagpie.h), a safe function for each entry: slices for pointer and length, places of
-//! results by `&mut`, and the number as it is returned. Nothing is added to it and nothing hidden.
+//! The C interface (include/rimemagpie.h), a safe function for each entry: slices for pointer and
+//! length, places of results by `&mut`, and the number as it is returned. Nothing is added to it
+//! and nothing hidden.
 //!
-//! This is the only file with `unsafe`. Slices are valid for their lengths, aligned and not null, also when empty, and
-//! `&mut` never overlaps anything else: all that the header asks for holds by the types.
+//! This is the only file with `unsafe`. Slices are valid for their lengths, aligned and not null,
+//! also when empty, and `&mut` never overlaps anything else: all that the header asks for holds by
+//! the types.
 
 #![allow(unsafe_code)]
 

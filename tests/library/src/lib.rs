@@ -1,4 +1,5 @@
-//! RFC 3118 delayed authentication for DHCPv4 messages: the proved library, as a Rust program uses it.
+//! RFC 3118 delayed authentication for DHCPv4 messages: the proved library, as a Rust program uses
+//! it.
 //!
 //! ```
 //! use rimemagpie::{Accepted, Book, Refusal};
@@ -52,7 +53,8 @@ pub fn hmac(key: &[u8], message: &[u8]) -> Result<[u8; 16], Refusal> {
     Ok(mac)
 }
 
-/// An accepted message: the row of its secret, and its counter, which is now that row's received one.
+/// An accepted message: the row of its secret, and its counter, which is now that row's received
+/// one.
 #[derive(Clone, Copy, Debug, PartialEq, Eq)]
 pub struct Accepted {
     /// The row in the book.
@@ -63,8 +65,9 @@ pub struct Accepted {
 
 /// A key book in the caller's buffers, each with room for the same n rows (n at most 1,024).
 ///
-/// It is sound when the sizes are so, `rows` is at most n and at most 64, the ids in use ascend strictly and their key
-/// lengths are 1 to 64. Any other book is refused with [`Refusal::BookNotSound`].
+/// It is sound when the sizes are so, `rows` is at most n and at most 64, the ids in use ascend
+/// strictly and their key lengths are 1 to 64. Any other book is refused with
+/// [`Refusal::BookNotSound`].
 #[derive(Debug)]
 pub struct Book<'a> {
     /// Secret ids, n of them.
@@ -117,8 +120,8 @@ impl Book<'_> {
         Ok(&self.key_store[index(offset)..][..index(length)])
     }
 
-    /// Seals a message that has an option 90 in full form: writes the next counter, the id and the MAC, stores the
-    /// counter as sent and returns it.
+    /// Seals a message that has an option 90 in full form: writes the next counter, the id and the
+    /// MAC, stores the counter as sent and returns it.
     pub fn seal(&mut self, id: u32, message: &mut [u8]) -> Result<u64, Refusal> {
         let mut counter = 0;
         Refusal::from_number(c::seal(
@@ -135,7 +138,8 @@ impl Book<'_> {
         Ok(counter)
     }
 
-    /// Reads a card: its rows and counters replace those in use. An old card brings old counters back.
+    /// Reads a card: its rows and counters replace those in use. An old card brings old counters
+    /// back.
     pub fn read_card(&mut self, card: &[u8]) -> Result<(), Refusal> {
         let mut rows = 0;
         Refusal::from_number(c::card_read(
@@ -151,7 +155,8 @@ impl Book<'_> {
         Ok(())
     }
 
-    /// Writes the book's card into the first bytes of the room and returns its size, [`CARD_MOST`] at the most.
+    /// Writes the book's card into the first bytes of the room and returns its size, [`CARD_MOST`]
+    /// at the most.
     pub fn write_card(&self, room: &mut [u8]) -> Result<usize, Refusal> {
         let mut size = 0;
         Refusal::from_number(c::card_write(

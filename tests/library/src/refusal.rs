@@ -54,7 +54,8 @@ refusals! {
 }
 
 impl Refusal {
-    /// The answer that a number stands for: `Ok` for 0. A number that the interface doesn't have is a broken library.
+    /// The answer that a number stands for: `Ok` for 0. A number that the interface doesn't have is
+    /// a broken library.
     pub(crate) fn from_number(number: u8) -> Result<(), Refusal> {
         if number == 0 {
             return Ok(());

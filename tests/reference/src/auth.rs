@@ -13,7 +13,8 @@ pub struct Accepted {
     pub counter: u64,
 }
 
-/// Checks a message: numbers 1 to 12, the replay field before the MAC. Accepted, its counter is stored.
+/// Checks a message: numbers 1 to 12, the replay field before the MAC. Accepted, its counter is
+/// stored.
 pub fn check(book: &mut Book, message: &[u8]) -> Result<Accepted, Refusal> {
     let (shape, row) = named_row(book, message)?;
     let counter = number(&message[shape.counter()]);
@@ -34,7 +35,8 @@ pub fn key_of_message(book: &Book, message: &[u8]) -> Result<Range<usize>, Refus
     Ok(book.key_place(row))
 }
 
-/// Seals a message under an id: numbers 1 to 9, then 10 for that id, then 13. Returns the counter written.
+/// Seals a message under an id: numbers 1 to 9, then 10 for that id, then 13. Returns the counter
+/// written.
 pub fn seal(book: &mut Book, id: u32, message: &mut [u8]) -> Result<u64, Refusal> {
     if !book.is_sound() {
         return Err(Refusal::BookNotSound);

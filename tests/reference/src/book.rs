@@ -7,7 +7,8 @@ pub const ROWS_MOST: usize = 64;
 pub const SLOT: usize = 64;
 pub const ROOM_MOST: usize = 1_024;
 
-/// The lent parts, of any sizes. Of each, the rows from `rows` on affect no answer, nor do slot bytes past a key.
+/// The lent parts, of any sizes. Of each, the rows from `rows` on affect no answer, nor do slot
+/// bytes past a key.
 #[derive(Clone, Debug, PartialEq, Eq, Default)]
 pub struct Book {
     pub ids: Vec<u32>,

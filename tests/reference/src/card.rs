@@ -1,8 +1,8 @@
 //! The card on which a book is stored (document 01, 'The card').
 //!
-//! Records follow one another without gap: length (2 bytes, counting kind and body), kind (2), body. All numbers
-//! are little-endian. Kind 1, a row: id (4), received (8), sent (8), key (1 to 64). Kind 2, the close: the number
-//! of rows (2); it is the last record and nothing follows.
+//! Records follow one another without gap: length (2 bytes, counting kind and body), kind (2),
+//! body. All numbers are little-endian. Kind 1, a row: id (4), received (8), sent (8), key (1 to
+//! 64). Kind 2, the close: the number of rows (2); it is the last record and nothing follows.
 
 use crate::book::{ascend_strictly, Book, ROWS_MOST, SLOT};
 use crate::refusal::Refusal;
@@ -22,7 +22,8 @@ pub struct Row {
     pub key: Vec<u8>,
 }
 
-/// Reads a card into the lent parts: numbers 1, 15, 17. Returns the number of rows; `book.rows` stays as it was.
+/// Reads a card into the lent parts: numbers 1, 15, 17. Returns the number of rows; `book.rows`
+/// stays as it was.
 pub fn read_card(card: &[u8], book: &mut Book) -> Result<usize, Refusal> {
     if !book.sizes_agree() {
         return Err(Refusal::BookNotSound);

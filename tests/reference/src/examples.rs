@@ -1,5 +1,6 @@
-//! Examples with outside answers: RFC 1321's digests, RFC 2202's HMAC-MD5 cases, and the bench examples of
-//! document 01. They are data only, so that every implementation can be held against them.
+//! Examples with outside answers: RFC 1321's digests, RFC 2202's HMAC-MD5 cases, and the bench
+//! examples of document 01. They are data only, so that every implementation can be held against
+//! them.
 
 use crate::book::Book;
 use crate::message::{AUTHENTICATION, COOKIE, COOKIE_AT, RELAY_AGENT};
@@ -140,8 +141,8 @@ pub struct CheckExample {
     pub number: u8,
 }
 
-/// Bench examples 3 to 9, but for the message put right. (Of example 3, 1,472 bytes pass number 2: they are zeros
-/// here, so that the cookie is what differs.)
+/// Bench examples 3 to 9, but for the message put right. (Of example 3, 1,472 bytes pass number 2:
+/// they are zeros here, so that the cookie is what differs.)
 pub fn refused_by_b() -> Vec<CheckExample> {
     let example = |name, number, message| CheckExample {
         name,
@@ -190,8 +191,8 @@ pub fn accepted_by_b() -> Vec<u8> {
     message
 }
 
-/// HMAC-MD5 under the key 1, 2, 3, 4 of 236 zeros, the cookie, 90, 31, 1, 1, 0, the counter 11, the id 7, sixteen
-/// zeros and End.
+/// HMAC-MD5 under the key 1, 2, 3, 4 of 236 zeros, the cookie, 90, 31, 1, 1, 0, the counter 11, the
+/// id 7, sixteen zeros and End.
 const ACCEPTED_MAC: [u8; 16] = [
     0xee, 0x98, 0xf4, 0xdb, 0xee, 0x5b, 0xeb, 0x3f, 0x0c, 0x40, 0x06, 0xa8, 0x69, 0x30, 0x26, 0x69,
 ];

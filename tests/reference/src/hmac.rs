@@ -9,7 +9,8 @@ const BLOCK: usize = 64;
 /// The longest key the library takes.
 pub const KEY_MOST: usize = 64;
 
-/// The library's entry: keys of 0 to 64 bytes, and an inner digest (64 key bytes and the message) of up to 65,535.
+/// The library's entry: keys of 0 to 64 bytes, and an inner digest (64 key bytes and the message)
+/// of up to 65,535.
 pub fn hmac(key: &[u8], message: &[u8]) -> Result<[u8; 16], Refusal> {
     if key.len() > KEY_MOST || BLOCK + message.len() > DIGEST_MOST {
         return Err(Refusal::DigestSize);
@@ -29,7 +30,8 @@ pub fn hmac_md5(key: &[u8], message: &[u8]) -> [u8; 16] {
     md5(&[&padded_key(&filled, 0x5c), &inner[..]].concat())
 }
 
-/// Each byte of the filled key by exclusive or with the pad byte: 0x36 (54) inside, 0x5c (92) outside.
+/// Each byte of the filled key by exclusive or with the pad byte: 0x36 (54) inside, 0x5c (92)
+/// outside.
 fn padded_key(filled: &[u8], pad: u8) -> Vec<u8> {
     filled.iter().map(|byte| byte ^ pad).collect()
 }

@@ -17,7 +17,8 @@ const ROTATIONS: [[u32; 4]; 4] = [
     [6, 10, 15, 21],
 ];
 
-/// RFC 1321's table T, by its rule: the whole part of 2^32 times |sin(i)|, i from 1 to 64 in radians.
+/// RFC 1321's table T, by its rule: the whole part of 2^32 times |sin(i)|, i from 1 to 64 in
+/// radians.
 static T: LazyLock<[u32; 64]> = LazyLock::new(|| {
     std::array::from_fn(|i| {
         let angle = (i + 1) as f64;

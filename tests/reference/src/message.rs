@@ -1,9 +1,11 @@
-//! The DHCPv4 message: its fixed part, its options, numbers 2 to 9, and the image that the MAC covers.
+//! The DHCPv4 message: its fixed part, its options, numbers 2 to 9, and the image that the MAC
+//! covers.
 //!
 //! Fixed part (RFC 2131), by offset: hops 3; giaddr 24..28; cookie 236..240; options from 240.
 //!
-//! Option 90 in full form (RFC 3118, section 5.2), by offset from its code: code 0, length 1, protocol 2,
-//! algorithm 3, replay method 4, counter 5..13, secret id 13..17, MAC 17..33. Numbers are big-endian.
+//! Option 90 in full form (RFC 3118, section 5.2), by offset from its code: code 0, length 1,
+//! protocol 2, algorithm 3, replay method 4, counter 5..13, secret id 13..17, MAC 17..33. Numbers
+//! are big-endian.
 
 use crate::refusal::Refusal;
 use std::ops::Range;
@@ -126,8 +128,8 @@ pub fn full_form(message: &[u8]) -> Result<Shape, Refusal> {
     Ok(shape)
 }
 
-/// The options before the first End, pads left out, and the offset of that End. None where an option passes the
-/// message's end or there is no End.
+/// The options before the first End, pads left out, and the offset of that End. None where an
+/// option passes the message's end or there is no End.
 fn read_options(message: &[u8]) -> Option<(Vec<OptionAt>, usize)> {
     let mut options = Vec::new();
     let mut at = OPTIONS_AT;
@@ -152,8 +154,8 @@ fn of_code(options: &[OptionAt], code: u8) -> Vec<OptionAt> {
     options.iter().copied().filter(|o| o.code == code).collect()
 }
 
-/// The covered image of a message in full form: hops, giaddr and the MAC zero, the whole of option 82 taken out,
-/// the rest in its order (RFC 3118, sections 3 and 5.3).
+/// The covered image of a message in full form: hops, giaddr and the MAC zero, the whole of option
+/// 82 taken out, the rest in its order (RFC 3118, sections 3 and 5.3).
 pub fn covered_image(message: &[u8], shape: &Shape) -> Vec<u8> {
     let mut image = message.to_vec();
     image[HOPS_AT] = 0;

@@ -20,8 +20,9 @@ pub enum Option82 {
     TakeOut,
 }
 
-/// The message after a relay change. None where the change is not permitted: the message fails one of numbers 2
-/// to 7, option 82 is not as the change wants it, its body is too long, or the result is above 1,472 bytes.
+/// The message after a relay change. None where the change is not permitted: the message fails one
+/// of numbers 2 to 7, option 82 is not as the change wants it, its body is too long, or the result
+/// is above 1,472 bytes.
 pub fn relayed(message: &[u8], change: &RelayChange) -> Option<Vec<u8>> {
     let found = shape(message).ok()?;
     let mut result = message.to_vec();

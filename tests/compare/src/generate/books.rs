@@ -31,7 +31,8 @@ pub fn sound_with_a_row(random: &mut Random) -> Book {
     }
 }
 
-/// A book with this room and that many rows in use, all of them in order. It is sound if the sizes allow it.
+/// A book with this room and that many rows in use, all of them in order. It is sound if the sizes
+/// allow it.
 pub fn with_rows(random: &mut Random, room: usize, rows: usize) -> Book {
     let mut ids = ascending_ids(random, rows);
     let mut key_lengths: Vec<u8> = (0..rows).map(|_| key_length(random)).collect();

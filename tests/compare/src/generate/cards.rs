@@ -95,7 +95,8 @@ impl Fault {
     ];
 }
 
-/// A card with this wrong. (A changed bit may fall into a counter or a key, and then the card is still one.)
+/// A card with this wrong. (A changed bit may fall into a counter or a key, and then the card is
+/// still one.)
 pub fn damaged(random: &mut Random, fault: Fault) -> Vec<u8> {
     let count = random.within(2..=6);
     let mut rows = rows(random, count);

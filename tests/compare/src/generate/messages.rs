@@ -1,5 +1,5 @@
-//! Messages: random bytes, well-formed ones signed for a row of a book, relay-changed ones, and ones with one or two
-//! things wrong.
+//! Messages: random bytes, well-formed ones signed for a row of a book, relay-changed ones, and
+//! ones with one or two things wrong.
 
 use super::relays;
 use crate::random::Random;
@@ -30,8 +30,8 @@ pub fn any(random: &mut Random, book: &Book) -> Vec<u8> {
     }
 }
 
-/// A well-formed message that names a row of the book, if it has one, with a counter above the received one, if there
-/// is such a counter, and the right MAC.
+/// A well-formed message that names a row of the book, if it has one, with a counter above the
+/// received one, if there is such a counter, and the right MAC.
 pub fn well_formed(random: &mut Random, book: &Book) -> Vec<u8> {
     with_faults(random, book, &[])
 }
@@ -44,8 +44,8 @@ pub fn signed(random: &mut Random, key: &[u8], id: u32, counter: u64) -> Vec<u8>
     message
 }
 
-/// Random bytes of random length. Most have the cookie, and option bytes that are often codes and short lengths, so
-/// that reading gets into them.
+/// Random bytes of random length. Most have the cookie, and option bytes that are often codes and
+/// short lengths, so that reading gets into them.
 pub fn random_bytes(random: &mut Random) -> Vec<u8> {
     let length = match random.below(4) {
         0 => random.within(0..=MESSAGE_LEAST),
@@ -130,8 +130,8 @@ impl Draft {
     }
 }
 
-/// A well-formed draft: other options and pads, option 90 in full form somewhere among them, perhaps option 82 with
-/// pads after it, End, and bytes after End.
+/// A well-formed draft: other options and pads, option 90 in full form somewhere among them,
+/// perhaps option 82 with pads after it, End, and bytes after End.
 fn draft(random: &mut Random) -> Draft {
     let mut parts: Vec<Part> = (0..random.within(0..=6))
         .map(|_| pad_or_other(random))
@@ -284,8 +284,8 @@ struct Signing {
     key: Vec<u8>,
 }
 
-/// A message for the book with these things wrong: in its parts, in what it is signed with, or in its bytes after it
-/// was signed. It is signed if it is in full form by then.
+/// A message for the book with these things wrong: in its parts, in what it is signed with, or in
+/// its bytes after it was signed. It is signed if it is in full form by then.
 pub fn with_faults(random: &mut Random, book: &Book, faults: &[Fault]) -> Vec<u8> {
     let mut draft = draft(random);
     let mut signing = signing_for(random, book);
@@ -326,7 +326,8 @@ fn signing_for(random: &mut Random, book: &Book) -> Signing {
     }
 }
 
-/// A counter above the given one: the next, the last there is, or any between. Above the last there is none.
+/// A counter above the given one: the next, the last there is, or any between. Above the last there
+/// is none.
 fn counter_above(random: &mut Random, received: u64) -> u64 {
     let left = u64::MAX - received;
     if left == 0 {
@@ -427,7 +428,8 @@ fn spoil_signing(random: &mut Random, signing: &mut Signing, book: &Book, fault:
     }
 }
 
-/// An id with no row, as far as one of these isn't: a neighbour, the bytes turned round, an id beyond the rows in use.
+/// An id with no row, as far as one of these isn't: a neighbour, the bytes turned round, an id
+/// beyond the rows in use.
 pub fn unknown_id(random: &mut Random, book: &Book, id: u32) -> u32 {
     match random.below(5) {
         0 => id.wrapping_add(1),

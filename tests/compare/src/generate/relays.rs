@@ -3,8 +3,8 @@
 use crate::random::Random;
 use reference::relay::{relayed, Option82, RelayChange};
 
-/// The message after one to three permitted relay changes, one after another. A message that fails one of numbers 2 to
-/// 7 stays as it is, since no relay change applies to it.
+/// The message after one to three permitted relay changes, one after another. A message that fails
+/// one of numbers 2 to 7 stays as it is, since no relay change applies to it.
 pub fn changed(random: &mut Random, message: &[u8]) -> Vec<u8> {
     let mut now = message.to_vec();
     for _ in 0..random.within(1..=3) {
