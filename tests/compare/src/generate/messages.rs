@@ -36,14 +36,6 @@ pub fn well_formed(random: &mut Random, book: &Book) -> Vec<u8> {
     with_faults(random, book, &[])
 }
 
-/// A well-formed message signed under a key with this id and counter.
-pub fn signed(random: &mut Random, key: &[u8], id: u32, counter: u64) -> Vec<u8> {
-    let mut message = draft(random).bytes();
-    let found = full_form(&message).expect("a draft is in full form");
-    sign(&mut message, &found, key, id, counter);
-    message
-}
-
 /// Random bytes of random length. Most have the cookie, and option bytes that are often codes and
 /// short lengths, so that reading gets into them.
 pub fn random_bytes(random: &mut Random) -> Vec<u8> {
@@ -130,9 +122,24 @@ impl Draft {
     }
 }
 
-/// A well-formed draft: other options and pads, option 90 in full form somewhere among them,
-/// perhaps option 82 with pads after it, End, and bytes after End.
+/// A well-formed draft: other options and pads, option 90 in full form somewhere among them, perhaps
+/// option 82 with pads after it, End, and bytes after End.
 fn draft(random: &mut Random) -> Draft {
+    loop {
+        let mut draft = Draft {
+            header: header(random),
+            parts: parts(random),
+            has_end: true,
+            after_end: vec![],
+        };
+        if let Some(left) = MESSAGE_MOST.checked_sub(draft.bytes().len()) {
+            draft.after_end = after_end(random, left);
+            return draft;
+        }
+    }
+}
+
+fn parts(random: &mut Random) -> Vec<Part> {
     let mut parts: Vec<Part> = (0..random.within(0..=6))
         .map(|_| pad_or_other(random))
         .collect();
@@ -145,15 +152,7 @@ fn draft(random: &mut Random) -> Draft {
         parts.push(relay_agent(random));
         parts.extend(vec![Part::Pad; random.pick(&[0, 0, 1, 3])]);
     }
-    let mut draft = Draft {
-        header: header(random),
-        parts,
-        has_end: true,
-        after_end: vec![],
-    };
-    let left = MESSAGE_MOST - draft.bytes().len();
-    draft.after_end = after_end(random, left);
-    draft
+    parts
 }
 
 fn header(random: &mut Random) -> Vec<u8> {
@@ -456,7 +455,7 @@ fn old_counter(random: &mut Random, received: u64) -> u64 {
 fn other_key(random: &mut Random, book: &Book, key: &[u8]) -> Vec<u8> {
     match random.below(4) {
         0 if book.rows > 0 => book.key(random.below(book.rows)).to_vec(),
-        1 => key[..key.len() - 1].to_vec(),
+        1 => key[..key.len().saturating_sub(1)].to_vec(),
         2 => [key, &[random.u8()]].concat(),
         _ => random.bytes(16),
     }
