@@ -93,12 +93,21 @@ impl Fault {
         Fault::CloseTwice,
         Fault::RowAfterClose,
     ];
+
+    /// How many rows the fault needs to be made.
+    fn rows_needed(self) -> usize {
+        match self {
+            Fault::IdRepeated | Fault::IdsOutOfOrder => 2,
+            Fault::KeyEmpty | Fault::KeyTooLong | Fault::RowCut | Fault::RowAfterClose => 1,
+            _ => 0,
+        }
+    }
 }
 
 /// A card with this wrong. (A changed bit may fall into a counter or a key, and then the card is
 /// still one.)
 pub fn damaged(random: &mut Random, fault: Fault) -> Vec<u8> {
-    let count = random.within(2..=6);
+    let count = random.within(fault.rows_needed()..=6);
     let mut rows = rows(random, count);
     spoil_rows(random, &mut rows, fault);
     let mut records: Vec<Vec<u8>> = rows
@@ -117,12 +126,21 @@ fn close(count: usize) -> Vec<u8> {
 }
 
 fn spoil_rows(random: &mut Random, rows: &mut Vec<Row>, fault: Fault) {
-    let at = random.within(1..=rows.len() - 1);
     match fault {
-        Fault::IdRepeated => rows[at].id = rows[at - 1].id,
-        Fault::IdsOutOfOrder => rows.swap(at - 1, at),
-        Fault::KeyEmpty => rows[at].key.clear(),
+        Fault::IdRepeated => {
+            let at = random.within(1..=rows.len() - 1);
+            rows[at].id = rows[at - 1].id;
+        }
+        Fault::IdsOutOfOrder => {
+            let at = random.within(1..=rows.len() - 1);
+            rows.swap(at - 1, at);
+        }
+        Fault::KeyEmpty => {
+            let at = random.below(rows.len());
+            rows[at].key.clear();
+        }
         Fault::KeyTooLong => {
+            let at = random.below(rows.len());
             let length = random.pick(&[SLOT + 1, SLOT + 2, 255, 300]);
             rows[at].key.resize(length, 9);
         }
@@ -155,7 +173,8 @@ fn spoil_records(random: &mut Random, records: &mut Vec<Vec<u8>>, fault: Fault) 
         }
         Fault::CloseNumber => {
             let count = last as u16;
-            let other = random.pick(&[count + 1, count - 1, 0, count + 256, count << 8]);
+            let less = count.wrapping_sub(1);
+            let other = random.pick(&[count + 1, less, 0, count + 256, count << 8]);
             records[last] = record(KIND_CLOSE, &other.to_le_bytes());
         }
         Fault::CloseLength => {
