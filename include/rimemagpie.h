@@ -1,0 +1,168 @@
+/*
+ * Rimemagpie: judges and seals DHCPv4 messages under RFC 3118 delayed authentication (protocol 1, algorithm 1, which is
+ * HMAC-MD5, replay detection method 0), and reads and writes the card on which a key book is stored.
+ *
+ * Link with libc_api.a. No function allocates, keeps anything between calls, or reads or writes anything but what it is
+ * lent.
+ *
+ * What is lent. A pointer and the length after it name a buffer of that many items (bytes, 32-bit or 64-bit numbers, not
+ * the size in bytes). Every pointer must be valid for its whole buffer, aligned for its type and not null, also where the
+ * length is 0. Buffers of one call must not overlap, and neither must a buffer and the place of a result.
+ *
+ * The key book. Five buffers, each with room for the same n rows (n at most 1,024), and the number of rows in use:
+ *
+ *   ids          n numbers     secret ids
+ *   key_lengths  n bytes       bytes of each key
+ *   key_store    64 * n bytes  row k's key from 64 * k on
+ *   received     n numbers     the counter last accepted from the network under each secret
+ *   sent         n numbers     the counter last sealed under each secret
+ *   rows                       rows in use
+ *
+ * The book is sound when the sizes are so, rows is at most n and at most 64, the first `rows` ids ascend strictly and
+ * their key lengths are 1 to 64. Any other book may be lent too: it is refused with 1. Slot bytes past a key and rows
+ * from `rows` on affect no answer.
+ *
+ * What is given back. Each function returns one of the numbers below, the lowest that applies. Any bytes may be lent as a
+ * message or a card. A refusal (any number but 0) changes nothing that was lent and no place of a result, with one
+ * exception: rimemagpie_digest and rimemagpie_hmac write 16 zero bytes with 14.
+ */
+#ifndef RIMEMAGPIE_H
+#define RIMEMAGPIE_H
+
+#include <stddef.h>
+#include <stdint.h>
+
+#ifdef __cplusplus
+extern "C" {
+#endif
+
+/* The numbers given back. */
+enum rimemagpie_number {
+    RIMEMAGPIE_DONE = 0,                 /* accepted or done */
+    RIMEMAGPIE_BOOK_NOT_SOUND = 1,       /* the book is not sound (reading a card: the lent sizes) */
+    RIMEMAGPIE_MESSAGE_SIZE = 2,         /* the message is below 241 or above 1,472 bytes */
+    RIMEMAGPIE_COOKIE = 3,               /* the cookie differs */
+    RIMEMAGPIE_OPTIONS_CUT = 4,          /* an option passes the message's end, or there is no End */
+    RIMEMAGPIE_NO_AUTHENTICATION = 5,    /* no option 90 */
+    RIMEMAGPIE_TWO_AUTHENTICATIONS = 6,  /* more than one option 90 */
+    RIMEMAGPIE_RELAY_OPTION = 7,         /* more than one option 82, or one that isn't last */
+    RIMEMAGPIE_OTHER_PROTOCOL = 8,       /* option 90 has a length other than 11 and 31, or doesn't begin with 1, 1, 0 */
+    RIMEMAGPIE_REQUEST_FORM = 9,         /* option 90 is a request (length 11): it has no id and no MAC */
+    RIMEMAGPIE_NO_ROW = 10,              /* the secret id has no row */
+    RIMEMAGPIE_REPLAY = 11,              /* the counter is not above the row's received one */
+    RIMEMAGPIE_WRONG_MAC = 12,           /* the MAC differs */
+    RIMEMAGPIE_COUNTER_SPENT = 13,       /* the sent counter is 2^64 - 1 */
+    RIMEMAGPIE_DIGEST_SIZE = 14,         /* the digest's total would pass 65,535 bytes, or an HMAC key is above 64 bytes */
+    RIMEMAGPIE_CARD_MALFORMED = 15,      /* the card is malformed */
+    RIMEMAGPIE_CARD_ROOM = 16,           /* the room for the card is too small */
+    RIMEMAGPIE_BOOK_ROOM = 17            /* the card has more rows than the lent room */
+};
+
+/*
+ * The MD5 digest (RFC 1321) of a message of up to 65,535 bytes.
+ *
+ *   0   `digest` holds the digest
+ *   14  the message is longer; `digest` holds 16 zero bytes
+ */
+uint8_t rimemagpie_digest(const uint8_t *message, size_t message_len, uint8_t digest[16]);
+
+/*
+ * The HMAC-MD5 (RFC 2104) of a message of up to 65,471 bytes under a key of up to 64. (The inner digest counts 64 bytes
+ * for the key.)
+ *
+ *   0   `mac` holds the MAC
+ *   14  the message or the key is longer; `mac` holds 16 zero bytes
+ */
+uint8_t rimemagpie_hmac(const uint8_t *key, size_t key_len,
+                        const uint8_t *message, size_t message_len,
+                        uint8_t mac[16]);
+
+/*
+ * Checks a message that came from the network.
+ *
+ *   0        accepted: `*row` is the row of its secret, `*counter` its counter, and received[*row] is now that counter;
+ *            nothing else changed
+ *   1 to 12  refused, as the table says; nothing changed, not `*row` and `*counter` either
+ */
+uint8_t rimemagpie_check(const uint32_t *ids, size_t ids_len,
+                         const uint8_t *key_lengths, size_t key_lengths_len,
+                         const uint8_t *key_store, size_t key_store_len,
+                         uint64_t *received, size_t received_len,
+                         const uint64_t *sent, size_t sent_len,
+                         size_t rows,
+                         const uint8_t *message, size_t message_len,
+                         uint64_t *row, uint64_t *counter);
+
+/*
+ * Where in the key store the key is that a message names. Neither the message's counter nor its MAC is judged.
+ *
+ *   0        the key is the `*length` bytes from key_store + *offset on
+ *   1 to 10  refused, as the table says; nothing changed, not `*offset` and `*length` either
+ */
+uint8_t rimemagpie_key(const uint32_t *ids, size_t ids_len,
+                       const uint8_t *key_lengths, size_t key_lengths_len,
+                       const uint8_t *key_store, size_t key_store_len,
+                       const uint64_t *received, size_t received_len,
+                       const uint64_t *sent, size_t sent_len,
+                       size_t rows,
+                       const uint8_t *message, size_t message_len,
+                       uint64_t *offset, uint64_t *length);
+
+/*
+ * Seals a message under the secret of an id. The message has an option 90 in full form, whose counter, id and MAC may hold
+ * anything: they are what is written.
+ *
+ *   0        sealed: counter, id and MAC stand in the message (28 bytes in a row), and the counter, which is the row's
+ *            sent one plus 1, is now that row's sent counter and `*counter`; nothing else changed
+ *   1 to 9   refused, as the table says; nothing changed, not `*counter` either
+ *   10       the given id has no row; nothing changed
+ *   13       the row's sent counter is 2^64 - 1; nothing changed
+ */
+uint8_t rimemagpie_seal(const uint32_t *ids, size_t ids_len,
+                        const uint8_t *key_lengths, size_t key_lengths_len,
+                        const uint8_t *key_store, size_t key_store_len,
+                        const uint64_t *received, size_t received_len,
+                        uint64_t *sent, size_t sent_len,
+                        size_t rows,
+                        uint32_t id,
+                        uint8_t *message, size_t message_len,
+                        uint64_t *counter);
+
+/*
+ * Reads a card into a book. The counters become the card's: an old card brings old counters back.
+ *
+ *   0   the first `*rows` rows of all five buffers are the card's, each slot filled with zeros after its key; further rows
+ *       are unchanged
+ *   1   the sizes don't belong together, or there is room for more than 1,024 rows; nothing changed, not `*rows` either
+ *   15  the card is malformed; nothing changed
+ *   17  the card has more rows than there is room for; nothing changed
+ */
+uint8_t rimemagpie_card_read(const uint8_t *card, size_t card_len,
+                             uint32_t *ids, size_t ids_len,
+                             uint8_t *key_lengths, size_t key_lengths_len,
+                             uint8_t *key_store, size_t key_store_len,
+                             uint64_t *received, size_t received_len,
+                             uint64_t *sent, size_t sent_len,
+                             uint64_t *rows);
+
+/*
+ * Writes a book's card. Its size is 6 bytes and, for each row, 24 and the key's; 5,638 bytes are always enough.
+ *
+ *   0   the first `*size` bytes of `card` are the card; later ones are unchanged
+ *   1   the book is not sound; nothing changed, not `*size` either
+ *   16  the room is below the card's size; nothing changed
+ */
+uint8_t rimemagpie_card_write(const uint32_t *ids, size_t ids_len,
+                              const uint8_t *key_lengths, size_t key_lengths_len,
+                              const uint8_t *key_store, size_t key_store_len,
+                              const uint64_t *received, size_t received_len,
+                              const uint64_t *sent, size_t sent_len,
+                              size_t rows,
+                              uint8_t *card, size_t card_len,
+                              uint64_t *size);
+
+#ifdef __cplusplus
+}
+#endif
+
+#endif

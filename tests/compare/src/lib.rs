@@ -1,0 +1,18 @@
+//! Holds the proved library against the second implementation: seeded inputs, lent buffers that
+//! show any stray write, counts of the numbers that came up, and whole runs of checks and seals.
+//!
+//! Environment variables, all optional:
+//!   RIMEMAGPIE_CASES    cases for each entry (100,000)
+//!   RIMEMAGPIE_SEED     what the cases are drawn from (1)
+//!   RIMEMAGPIE_LIB_DIR  the folder of libc_api.a (target/staticlib)
+//!   RIMEMAGPIE_JUDGE    the program judge (target/bin/judge)
+//! Relative paths are taken from the top of the repository.
+
+#![forbid(unsafe_code)]
+
+pub mod generate;
+pub mod harness;
+pub mod lent;
+pub mod outside;
+pub mod random;
+pub mod runs;

@@ -1,0 +1,95 @@
+//! What stands outside Rust: the repository's files, the built library and program, temporary
+//! folders, and commands.
+
+use std::env;
+use std::fs;
+use std::path::{Path, PathBuf};
+use std::process::{Command, Output};
+use std::sync::atomic::{AtomicUsize, Ordering};
+
+/// A file of the repository, by its path from the top.
+pub fn repository_file(path: &str) -> PathBuf {
+    Path::new(env!("CARGO_MANIFEST_DIR"))
+        .join("../..")
+        .join(path)
+}
+
+/// The static library.
+pub fn static_library() -> PathBuf {
+    built("RIMEMAGPIE_LIB_DIR", "target/staticlib", Some("libc_api.a"))
+}
+
+/// The program judge.
+pub fn judge() -> PathBuf {
+    built("RIMEMAGPIE_JUDGE", "target/bin/judge", None)
+}
+
+/// Something that must have been built first, where the variable says or else at its usual place.
+fn built(variable: &str, usual: &str, file: Option<&str>) -> PathBuf {
+    let named = env::var(variable).unwrap_or(usual.to_string());
+    let mut path = repository_file(&named);
+    path.extend(file);
+    assert!(
+        path.is_file(),
+        "{} is not there: build it first, or set {variable}",
+        path.display()
+    );
+    path
+}
+
+/// A folder of its own for one test, taken away at the end.
+pub struct Folder {
+    path: PathBuf,
+}
+
+impl Folder {
+    pub fn new() -> Self {
+        static COUNT: AtomicUsize = AtomicUsize::new(0);
+        let number = COUNT.fetch_add(1, Ordering::Relaxed);
+        let name = format!("rimemagpie-{}-{number}", std::process::id());
+        let path = env::temp_dir().join(name);
+        fs::create_dir(&path).expect("a temporary folder can be made");
+        Folder { path }
+    }
+
+    pub fn path(&self) -> &Path {
+        &self.path
+    }
+
+    pub fn write(&self, name: &str, bytes: &[u8]) {
+        fs::write(self.path.join(name), bytes).expect("a temporary file can be written");
+    }
+}
+
+impl Default for Folder {
+    fn default() -> Self {
+        Self::new()
+    }
+}
+
+impl Drop for Folder {
+    fn drop(&mut self) {
+        // What is left behind in a temporary folder does no harm.
+        let _ = fs::remove_dir_all(&self.path);
+    }
+}
+
+/// Runs a command to its end; a command that can't be started is named.
+pub fn run(command: &mut Command) -> Output {
+    command
+        .output()
+        .unwrap_or_else(|error| panic!("{command:?} can't be started: {error}"))
+}
+
+/// Runs a command that must succeed, and gives what it wrote.
+pub fn run_well(command: &mut Command) -> String {
+    let output = run(command);
+    let out = String::from_utf8_lossy(&output.stdout).into_owned();
+    let errors = String::from_utf8_lossy(&output.stderr);
+    assert!(
+        output.status.success(),
+        "{command:?}: {}\n{out}{errors}",
+        output.status
+    );
+    out
+}

@@ -1,0 +1,260 @@
+//! The program `judge` on files in a folder of its own: every answer that files can bring about,
+//! files that are missing, empty, at the limit and above it, a folder in place of a file, and that
+//! it leaves all of them as they were.
+
+use compare::generate::{books, cards, messages};
+use compare::harness::{for_each_case, same, Tally};
+use compare::outside::{judge, run, Folder};
+use compare::random::Random;
+use reference::card::{card_of_rows, rows_of_book, Row};
+use reference::examples::{accepted_by_b, message_with, refused_by_b, CARD_B, CARD_EMPTY};
+use reference::{check, read_card, Book};
+use std::fs;
+use std::process::Command;
+use std::time::SystemTime;
+
+const CARD: &str = "book.card";
+const MESSAGE: &str = "message.bin";
+
+/// What stands at one of the two names.
+enum At<'a> {
+    Nothing,
+    File(&'a [u8]),
+    Folder,
+}
+
+/// The line that judge writes on these two.
+fn judged(card: At, message: At) -> String {
+    let folder = Folder::new();
+    put(&folder, CARD, card);
+    put(&folder, MESSAGE, message);
+    judged_in(&folder)
+}
+
+fn put(folder: &Folder, name: &str, what: At) {
+    match what {
+        At::Nothing => {}
+        At::File(bytes) => folder.write(name, bytes),
+        At::Folder => fs::create_dir(folder.path().join(name)).expect("a folder can be made"),
+    }
+}
+
+/// Runs judge in a folder, which it must leave as it was, and gives what it wrote.
+fn judged_in(folder: &Folder) -> String {
+    let before = contents(folder);
+    let output = run(Command::new(judge()).current_dir(folder.path()));
+    assert_eq!(contents(folder), before, "judge changed a file");
+    assert!(
+        output.status.success(),
+        "judge ended with {}",
+        output.status
+    );
+    assert_eq!(output.stderr, b"", "judge wrote to standard error");
+    String::from_utf8(output.stdout).expect("judge writes text")
+}
+
+/// Name, bytes (of a file) and time of the last change of all that a folder holds.
+fn contents(folder: &Folder) -> Vec<(String, Option<Vec<u8>>, SystemTime)> {
+    let mut all: Vec<_> = fs::read_dir(folder.path())
+        .expect("the folder can be read")
+        .map(|entry| {
+            let entry = entry.expect("the folder can be read");
+            let changed = entry.metadata().and_then(|data| data.modified());
+            let name = entry.file_name().to_string_lossy().into_owned();
+            let changed = changed.expect("a file has a time");
+            (name, fs::read(entry.path()).ok(), changed)
+        })
+        .collect();
+    all.sort();
+    all
+}
+
+fn judged_files(card: &[u8], message: &[u8]) -> String {
+    judged(At::File(card), At::File(message))
+}
+
+/// Bench example 9, put right. Judged again it is accepted again, since the card is not written
+/// back.
+#[test]
+fn accepted() {
+    let folder = Folder::new();
+    folder.write(CARD, &CARD_B);
+    folder.write(MESSAGE, &accepted_by_b());
+    assert_eq!(judged_in(&folder), "accepted row 0 counter 11\n");
+    assert_eq!(judged_in(&folder), "accepted row 0 counter 11\n");
+}
+
+/// Refusals 2, 3, 4, 5, 7, 8, 9, 10, 11 and 12: bench examples 3 to 9.
+#[test]
+fn refused_bench_examples() {
+    for example in refused_by_b() {
+        let line = judged_files(&CARD_B, &example.message);
+        let expected = format!("refused {}\n", example.number);
+        assert_eq!(line, expected, "{}", example.name);
+    }
+}
+
+/// Refusal 6, and the rest of a message that has no fault but that.
+#[test]
+fn refused_6() {
+    let message = accepted_by_b();
+    let option_90 = &message[240..273];
+    let twice = message_with(&[option_90, option_90, &[255]].concat());
+    assert_eq!(judged_files(&CARD_B, &twice), "refused 6\n");
+}
+
+#[test]
+fn rows_and_counters_are_written_in_full() {
+    let row = |id, received, key: &[u8]| Row {
+        id,
+        received,
+        sent: 0,
+        key: key.to_vec(),
+    };
+    let mut rows: Vec<Row> = (0..64).map(|id| row(id, 0, &[9; 64])).collect();
+    rows[63].received = u64::MAX - 1;
+    let card = card_of_rows(&rows);
+    assert_eq!(card.len(), 5_638);
+
+    let last = signed(&[9; 64], 63, u64::MAX);
+    let line = "accepted row 63 counter 18446744073709551615\n";
+    assert_eq!(judged_files(&card, &last), line);
+    let first = signed(&[9; 64], 0, 1);
+    assert_eq!(judged_files(&card, &first), "accepted row 0 counter 1\n");
+    let tenth = signed(&[9; 64], 10, 1_000_000);
+    let line = "accepted row 10 counter 1000000\n";
+    assert_eq!(judged_files(&card, &tenth), line);
+    let zero = signed(&[9; 64], 5, 0);
+    assert_eq!(judged_files(&card, &zero), "refused 11\n");
+}
+
+/// Bench example 9's message signed anew.
+fn signed(key: &[u8], id: u32, counter: u64) -> Vec<u8> {
+    let mut message = accepted_by_b();
+    let shape = reference::message::full_form(&message).expect("in full form");
+    reference::auth::sign(&mut message, &shape, key, id, counter);
+    message
+}
+
+#[test]
+fn a_card_without_rows() {
+    let message = accepted_by_b();
+    assert_eq!(judged_files(&CARD_EMPTY, &message), "refused 10\n");
+}
+
+/// A card that reading refuses is refused with 15, whatever stands in place of the message.
+#[test]
+fn the_card_is_judged_first() {
+    let longer = [&CARD_B[..], &[0]].concat();
+    let above = vec![0; 65_536];
+    let messages = [
+        At::Nothing,
+        At::Folder,
+        At::File(&[]),
+        At::File(&above),
+        At::File(&accepted_by_b()),
+    ];
+    for message in messages {
+        assert_eq!(judged(At::File(&longer), message), "refused 15\n");
+    }
+    let rows_65: Vec<Row> = (0..65)
+        .map(|id| Row {
+            id,
+            received: 0,
+            sent: 0,
+            key: vec![1],
+        })
+        .collect();
+    let line = judged_files(&card_of_rows(&rows_65), &accepted_by_b());
+    assert_eq!(line, "refused 15\n");
+}
+
+#[test]
+fn unreadable_card() {
+    let message = accepted_by_b();
+    let above = vec![0; 65_536];
+    for card in [At::Nothing, At::Folder, At::File(&above)] {
+        assert_eq!(judged(card, At::File(&message)), "unreadable\n");
+    }
+    assert_eq!(judged(At::Nothing, At::Nothing), "unreadable\n");
+}
+
+#[test]
+fn unreadable_message() {
+    let above = vec![0; 65_536];
+    let far_above = vec![0; 200_000];
+    let messages = [
+        At::Nothing,
+        At::Folder,
+        At::File(&above),
+        At::File(&far_above),
+    ];
+    for message in messages {
+        assert_eq!(judged(At::File(&CARD_B), message), "unreadable\n");
+    }
+}
+
+#[test]
+fn empty_files_are_read() {
+    assert_eq!(judged_files(&[], &accepted_by_b()), "refused 15\n");
+    assert_eq!(judged_files(&CARD_B, &[]), "refused 2\n");
+    assert_eq!(judged_files(&[], &[]), "refused 15\n");
+}
+
+#[test]
+fn files_of_65535_bytes_are_read() {
+    let largest = vec![0; 65_535];
+    assert_eq!(judged_files(&largest, &accepted_by_b()), "refused 15\n");
+    assert_eq!(judged_files(&CARD_B, &largest), "refused 2\n");
+}
+
+/// Random cards and messages get the line that the second implementation's answers make.
+#[test]
+fn as_the_second_implementation_judges() {
+    let mut tally = Tally::new("judge");
+    for_each_case("judge", 1_000, |random| {
+        let (card, message) = card_and_message(random);
+        let (number, line) = expected_line(&card, &message);
+        same("the line", &line, &judged_files(&card, &message))?;
+        tally.count(number);
+        Ok(())
+    });
+    tally.print();
+    tally.require(&[0, 2, 3, 4, 5, 6, 7, 8, 9, 10, 11, 12, 15]);
+}
+
+/// A sound book's card and a message for it; one card in ten is any card.
+fn card_and_message(random: &mut Random) -> (Vec<u8>, Vec<u8>) {
+    let book = books::sound_with_a_row(random);
+    let card = match random.below(10) {
+        0 => cards::any(random),
+        _ => card_of_rows(&rows_of_book(&book)),
+    };
+    (card, messages::any(random, &book))
+}
+
+/// The number and the line for two files that can be read.
+fn expected_line(card: &[u8], message: &[u8]) -> (u8, String) {
+    let mut book = Book {
+        ids: vec![0; 64],
+        key_lengths: vec![0; 64],
+        key_store: vec![0; 64 * 64],
+        received: vec![0; 64],
+        sent: vec![0; 64],
+        rows: 0,
+    };
+    let answer = read_card(card, &mut book).and_then(|rows| {
+        book.rows = rows;
+        check(&mut book, message)
+    });
+    match answer {
+        Ok(accepted) => {
+            let (row, counter) = (accepted.row, accepted.counter);
+            (0, format!("accepted row {row} counter {counter}\n"))
+        }
+        Err(refusal) => {
+            let number = refusal.number();
+            (number, format!("refused {number}\n"))
+        }
+    }
+}

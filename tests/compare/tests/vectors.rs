@@ -1,0 +1,101 @@
+//! Outside answers through the interface: RFC 1321's digests, RFC 2202's HMAC-MD5 cases, and the
+//! bench examples of document 01 by number.
+
+use compare::runs::lend;
+use reference::examples::{
+    accepted_by_b, book_b, hex, refused_by_b, rfc_2202, CARD_B, CARD_EMPTY, RFC_1321,
+};
+use reference::Book;
+use rimemagpie::{c, Accepted, Refusal};
+
+#[test]
+fn rfc_1321_test_suite() {
+    for (message, expected) in RFC_1321 {
+        let digest = rimemagpie::digest(message.as_bytes());
+        assert_eq!(digest.map(|d| hex(&d)), Ok(expected.to_string()));
+    }
+}
+
+/// The cases with keys to 64 bytes; a longer key is refused, with a MAC of zeros.
+#[test]
+fn rfc_2202_test_cases() {
+    for case in rfc_2202() {
+        let mut mac = [9; 16];
+        let number = c::hmac(&case.key, &case.message, &mut mac);
+        if case.key.len() <= 64 {
+            let answer = (number, hex(&mac));
+            assert_eq!(answer, (0, case.mac.to_string()), "case {}", case.number);
+        } else {
+            assert_eq!((number, mac), (14, [0; 16]), "case {}", case.number);
+        }
+    }
+}
+
+/// Room for some rows, all bytes and numbers 0.
+fn room_for(n: usize) -> Book {
+    Book {
+        ids: vec![0; n],
+        key_lengths: vec![0; n],
+        key_store: vec![0; 64 * n],
+        received: vec![0; n],
+        sent: vec![0; n],
+        rows: 0,
+    }
+}
+
+#[test]
+fn example_1_card_of_b() {
+    let mut room = [0; 34];
+    assert_eq!(lend(&mut book_b()).write_card(&mut room), Ok(34));
+    assert_eq!(room, CARD_B);
+
+    let mut read = room_for(1);
+    let mut lent = lend(&mut read);
+    assert_eq!(lent.read_card(&CARD_B), Ok(()));
+    read.rows = lent.rows;
+    assert_eq!(read, book_b());
+}
+
+#[test]
+fn example_2_empty_card() {
+    let mut book = room_for(1);
+    book.rows = 1;
+    let mut lent = lend(&mut book);
+    let longer = [&CARD_EMPTY[..], &[0]].concat();
+    assert_eq!(lent.read_card(&longer), Err(Refusal::CardMalformed));
+    assert_eq!(lent.rows, 1);
+    assert_eq!(lent.read_card(&CARD_EMPTY), Ok(()));
+    assert_eq!(lent.rows, 0);
+}
+
+#[test]
+fn examples_3_to_9_refused() {
+    for example in refused_by_b() {
+        let mut book = book_b();
+        let answer = lend(&mut book).check(&example.message);
+        let number = answer.map_err(|refusal| refusal.number());
+        assert_eq!(number, Err(example.number), "{}", example.name);
+        assert_eq!(book, book_b(), "{}", example.name);
+    }
+}
+
+#[test]
+fn example_9_put_right() {
+    let mut book = book_b();
+    let accepted = Accepted {
+        row: 0,
+        counter: 11,
+    };
+    assert_eq!(lend(&mut book).check(&accepted_by_b()), Ok(accepted));
+    assert_eq!(book.received, [11]);
+}
+
+#[test]
+fn example_10_key_lengths() {
+    for (length, expected) in [(64, Ok(34 + 60)), (65, Err(Refusal::BookNotSound))] {
+        let mut book = book_b();
+        book.key_lengths[0] = length;
+        let answer = lend(&mut book).write_card(&mut [0; 200]);
+        assert_eq!(answer, expected);
+    }
+}

@@ -1,0 +1,136 @@
+//! The Rust wrapper beside the second implementation: what it makes of the numbers and places of
+//! the C interface.
+
+use compare::generate::{books, cards, messages};
+use compare::harness::{cases, for_each_case, same, Difference};
+use compare::random::Random;
+use compare::runs::{any_id, lend};
+use reference::refusal::number_of;
+use reference::Book;
+use rimemagpie::Refusal;
+
+/// The C interface has the whole number of cases; here a tenth is enough.
+fn some_cases() -> u64 {
+    cases() / 10
+}
+
+#[test]
+fn refusals_have_their_numbers() {
+    let numbers: Vec<u8> = Refusal::ALL.iter().map(|r| r.number()).collect();
+    assert_eq!(numbers, (1..=17).collect::<Vec<u8>>());
+    let words = Refusal::Replay.to_string();
+    assert_eq!(
+        words,
+        "refused 11: the counter is not above the row's received one"
+    );
+}
+
+#[test]
+fn digest_and_hmac() {
+    for_each_case("wrapper digest", some_cases(), |random| {
+        let (key_length, length) = (random.within(0..=70), random.within(0..=300));
+        let (key, message) = (random.bytes(key_length), random.bytes(length));
+        let digest = numbered(rimemagpie::digest(&message));
+        same(
+            "the digest",
+            &numbered_reference(reference::digest(&message)),
+            &digest,
+        )?;
+        let mac = numbered(rimemagpie::hmac(&key, &message));
+        same(
+            "the MAC",
+            &numbered_reference(reference::hmac(&key, &message)),
+            &mac,
+        )
+    });
+    let long = vec![0; 65_536];
+    assert_eq!(rimemagpie::digest(&long), Err(Refusal::DigestSize));
+}
+
+#[test]
+fn check_key_and_seal() {
+    for_each_case("wrapper check", some_cases(), |random| {
+        let mut book = books::sound(random);
+        let message = messages::any(random, &book);
+        let id = any_id(random, &book);
+        maybe_spoil(random, &mut book);
+        same_key(&book, &message)?;
+        same_check(&book, &message)?;
+        same_seal(&book, id, &message)
+    });
+}
+
+fn same_key(book: &Book, message: &[u8]) -> Result<(), Difference> {
+    let place = reference::key_of_message(book, message);
+    let expected = numbered_reference(place).map(|place| book.key_store[place].to_vec());
+    let mut lent = book.clone();
+    let found = numbered(lend(&mut lent).key(message).map(<[u8]>::to_vec));
+    same("the key", &expected, &found)
+}
+
+fn same_check(book: &Book, message: &[u8]) -> Result<(), Difference> {
+    let mut book_after = book.clone();
+    let expected = numbered_reference(reference::check(&mut book_after, message));
+    let mut lent = book.clone();
+    let found = numbered(lend(&mut lent).check(message));
+    let expected = expected.map(|a| (a.row, a.counter));
+    same("the check", &expected, &found.map(|a| (a.row, a.counter)))?;
+    same("the book", &book_after, &lent)
+}
+
+fn same_seal(book: &Book, id: u32, message: &[u8]) -> Result<(), Difference> {
+    let (mut book_after, mut message_after) = (book.clone(), message.to_vec());
+    let expected = reference::seal(&mut book_after, id, &mut message_after);
+    let (mut lent, mut sealed) = (book.clone(), message.to_vec());
+    let found = lend(&mut lent).seal(id, &mut sealed);
+    same("the seal", &numbered_reference(expected), &numbered(found))?;
+    same("the book", &book_after, &lent)?;
+    same("the message", &message_after, &sealed)
+}
+
+#[test]
+fn cards_read_and_written() {
+    for_each_case("wrapper card", some_cases(), |random| {
+        let mut book = books::sound(random);
+        maybe_spoil(random, &mut book);
+        same_written(&book)?;
+        same_read(&book, &cards::any(random))
+    });
+}
+
+fn same_written(book: &Book) -> Result<(), Difference> {
+    let (mut room_after, mut room) = ([7; 1_000], [7; 1_000]);
+    let expected = reference::write_card(book, &mut room_after);
+    let found = lend(&mut book.clone()).write_card(&mut room);
+    same("the size", &numbered_reference(expected), &numbered(found))?;
+    same("the card", &room_after, &room)
+}
+
+/// The row count becomes the card's on 0 and stays on a refusal.
+fn same_read(book: &Book, card: &[u8]) -> Result<(), Difference> {
+    let mut book_after = book.clone();
+    let expected = reference::read_card(card, &mut book_after);
+    book_after.rows = expected.unwrap_or(book.rows);
+    let mut found = book.clone();
+    let mut lent = lend(&mut found);
+    let answer = lent.read_card(card);
+    let rows = lent.rows;
+    found.rows = rows;
+    let number = answer.map_or_else(|refusal| refusal.number(), |()| 0);
+    same("the number", &number_of(&expected), &number)?;
+    same("the book", &book_after, &found)
+}
+
+fn maybe_spoil(random: &mut Random, book: &mut Book) {
+    if random.one_in(8) {
+        books::spoil(random, book);
+    }
+}
+
+fn numbered<T>(answer: Result<T, Refusal>) -> Result<T, u8> {
+    answer.map_err(|refusal| refusal.number())
+}
+
+fn numbered_reference<T>(answer: Result<T, reference::Refusal>) -> Result<T, u8> {
+    answer.map_err(|refusal| refusal.number())
+}

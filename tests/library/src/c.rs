@@ -1,0 +1,293 @@
+//! The C interface (include/rimemagpie.h), a safe function for each entry: slices for pointer and
+//! length, places of results by `&mut`, and the number as it is returned. Nothing is added to it
+//! and nothing hidden.
+//!
+//! This is the only file with `unsafe`. Slices are valid for their lengths, aligned and not null,
+//! also when empty, and `&mut` never overlaps anything else: all that the header asks for holds by
+//! the types.
+
+#![allow(unsafe_code)]
+
+/// The declarations of include/rimemagpie.h.
+mod header {
+    extern "C" {
+        pub fn rimemagpie_digest(message: *const u8, message_len: usize, digest: *mut u8) -> u8;
+
+        pub fn rimemagpie_hmac(
+            key: *const u8,
+            key_len: usize,
+            message: *const u8,
+            message_len: usize,
+            mac: *mut u8,
+        ) -> u8;
+
+        pub fn rimemagpie_check(
+            ids: *const u32,
+            ids_len: usize,
+            key_lengths: *const u8,
+            key_lengths_len: usize,
+            key_store: *const u8,
+            key_store_len: usize,
+            received: *mut u64,
+            received_len: usize,
+            sent: *const u64,
+            sent_len: usize,
+            rows: usize,
+            message: *const u8,
+            message_len: usize,
+            row: *mut u64,
+            counter: *mut u64,
+        ) -> u8;
+
+        pub fn rimemagpie_key(
+            ids: *const u32,
+            ids_len: usize,
+            key_lengths: *const u8,
+            key_lengths_len: usize,
+            key_store: *const u8,
+            key_store_len: usize,
+            received: *const u64,
+            received_len: usize,
+            sent: *const u64,
+            sent_len: usize,
+            rows: usize,
+            message: *const u8,
+            message_len: usize,
+            offset: *mut u64,
+            length: *mut u64,
+        ) -> u8;
+
+        pub fn rimemagpie_seal(
+            ids: *const u32,
+            ids_len: usize,
+            key_lengths: *const u8,
+            key_lengths_len: usize,
+            key_store: *const u8,
+            key_store_len: usize,
+            received: *const u64,
+            received_len: usize,
+            sent: *mut u64,
+            sent_len: usize,
+            rows: usize,
+            id: u32,
+            message: *mut u8,
+            message_len: usize,
+            counter: *mut u64,
+        ) -> u8;
+
+        pub fn rimemagpie_card_read(
+            card: *const u8,
+            card_len: usize,
+            ids: *mut u32,
+            ids_len: usize,
+            key_lengths: *mut u8,
+            key_lengths_len: usize,
+            key_store: *mut u8,
+            key_store_len: usize,
+            received: *mut u64,
+            received_len: usize,
+            sent: *mut u64,
+            sent_len: usize,
+            rows: *mut u64,
+        ) -> u8;
+
+        pub fn rimemagpie_card_write(
+            ids: *const u32,
+            ids_len: usize,
+            key_lengths: *const u8,
+            key_lengths_len: usize,
+            key_store: *const u8,
+            key_store_len: usize,
+            received: *const u64,
+            received_len: usize,
+            sent: *const u64,
+            sent_len: usize,
+            rows: usize,
+            card: *mut u8,
+            card_len: usize,
+            size: *mut u64,
+        ) -> u8;
+    }
+}
+
+/// `rimemagpie_digest`.
+pub fn digest(message: &[u8], digest: &mut [u8; 16]) -> u8 {
+    unsafe { header::rimemagpie_digest(message.as_ptr(), message.len(), digest.as_mut_ptr()) }
+}
+
+/// `rimemagpie_hmac`.
+pub fn hmac(key: &[u8], message: &[u8], mac: &mut [u8; 16]) -> u8 {
+    unsafe {
+        header::rimemagpie_hmac(
+            key.as_ptr(),
+            key.len(),
+            message.as_ptr(),
+            message.len(),
+            mac.as_mut_ptr(),
+        )
+    }
+}
+
+/// `rimemagpie_check`.
+#[allow(clippy::too_many_arguments)]
+pub fn check(
+    ids: &[u32],
+    key_lengths: &[u8],
+    key_store: &[u8],
+    received: &mut [u64],
+    sent: &[u64],
+    rows: usize,
+    message: &[u8],
+    row: &mut u64,
+    counter: &mut u64,
+) -> u8 {
+    unsafe {
+        header::rimemagpie_check(
+            ids.as_ptr(),
+            ids.len(),
+            key_lengths.as_ptr(),
+            key_lengths.len(),
+            key_store.as_ptr(),
+            key_store.len(),
+            received.as_mut_ptr(),
+            received.len(),
+            sent.as_ptr(),
+            sent.len(),
+            rows,
+            message.as_ptr(),
+            message.len(),
+            row,
+            counter,
+        )
+    }
+}
+
+/// `rimemagpie_key`.
+#[allow(clippy::too_many_arguments)]
+pub fn key(
+    ids: &[u32],
+    key_lengths: &[u8],
+    key_store: &[u8],
+    received: &[u64],
+    sent: &[u64],
+    rows: usize,
+    message: &[u8],
+    offset: &mut u64,
+    length: &mut u64,
+) -> u8 {
+    unsafe {
+        header::rimemagpie_key(
+            ids.as_ptr(),
+            ids.len(),
+            key_lengths.as_ptr(),
+            key_lengths.len(),
+            key_store.as_ptr(),
+            key_store.len(),
+            received.as_ptr(),
+            received.len(),
+            sent.as_ptr(),
+            sent.len(),
+            rows,
+            message.as_ptr(),
+            message.len(),
+            offset,
+            length,
+        )
+    }
+}
+
+/// `rimemagpie_seal`.
+#[allow(clippy::too_many_arguments)]
+pub fn seal(
+    ids: &[u32],
+    key_lengths: &[u8],
+    key_store: &[u8],
+    received: &[u64],
+    sent: &mut [u64],
+    rows: usize,
+    id: u32,
+    message: &mut [u8],
+    counter: &mut u64,
+) -> u8 {
+    unsafe {
+        header::rimemagpie_seal(
+            ids.as_ptr(),
+            ids.len(),
+            key_lengths.as_ptr(),
+            key_lengths.len(),
+            key_store.as_ptr(),
+            key_store.len(),
+            received.as_ptr(),
+            received.len(),
+            sent.as_mut_ptr(),
+            sent.len(),
+            rows,
+            id,
+            message.as_mut_ptr(),
+            message.len(),
+            counter,
+        )
+    }
+}
+
+/// `rimemagpie_card_read`.
+#[allow(clippy::too_many_arguments)]
+pub fn card_read(
+    card: &[u8],
+    ids: &mut [u32],
+    key_lengths: &mut [u8],
+    key_store: &mut [u8],
+    received: &mut [u64],
+    sent: &mut [u64],
+    rows: &mut u64,
+) -> u8 {
+    unsafe {
+        header::rimemagpie_card_read(
+            card.as_ptr(),
+            card.len(),
+            ids.as_mut_ptr(),
+            ids.len(),
+            key_lengths.as_mut_ptr(),
+            key_lengths.len(),
+            key_store.as_mut_ptr(),
+            key_store.len(),
+            received.as_mut_ptr(),
+            received.len(),
+            sent.as_mut_ptr(),
+            sent.len(),
+            rows,
+        )
+    }
+}
+
+/// `rimemagpie_card_write`.
+#[allow(clippy::too_many_arguments)]
+pub fn card_write(
+    ids: &[u32],
+    key_lengths: &[u8],
+    key_store: &[u8],
+    received: &[u64],
+    sent: &[u64],
+    rows: usize,
+    card: &mut [u8],
+    size: &mut u64,
+) -> u8 {
+    unsafe {
+        header::rimemagpie_card_write(
+            ids.as_ptr(),
+            ids.len(),
+            key_lengths.as_ptr(),
+            key_lengths.len(),
+            key_store.as_ptr(),
+            key_store.len(),
+            received.as_ptr(),
+            received.len(),
+            sent.as_ptr(),
+            sent.len(),
+            rows,
+            card.as_mut_ptr(),
+            card.len(),
+            size,
+        )
+    }
+}

@@ -1,0 +1,74 @@
+//! The refusals by name, each with the number that the C interface returns.
+
+use std::error::Error;
+use std::fmt;
+
+/// Declares the refusals once: name, number and what is wrong.
+macro_rules! refusals {
+    ($($name:ident = $number:literal, $words:literal;)*) => {
+        /// Why an entry refused. A refusal has changed nothing that was lent.
+        #[derive(Clone, Copy, Debug, PartialEq, Eq, Hash)]
+        pub enum Refusal {
+            $(#[doc = $words] $name,)*
+        }
+
+        impl Refusal {
+            /// Every refusal, in the order of the numbers.
+            pub const ALL: &'static [Refusal] = &[$(Refusal::$name,)*];
+
+            /// The number that the C interface returns for it, 1 to 17.
+            pub fn number(self) -> u8 {
+                match self {
+                    $(Refusal::$name => $number,)*
+                }
+            }
+
+            /// What is wrong, in words.
+            fn words(self) -> &'static str {
+                match self {
+                    $(Refusal::$name => $words,)*
+                }
+            }
+        }
+    };
+}
+
+refusals! {
+    BookNotSound = 1, "the book is not sound";
+    MessageSize = 2, "the message is below 241 or above 1,472 bytes";
+    Cookie = 3, "the cookie differs";
+    OptionsCut = 4, "an option passes the message's end, or there is no End";
+    NoAuthentication = 5, "there is no option 90";
+    TwoAuthentications = 6, "there is more than one option 90";
+    RelayOption = 7, "there is more than one option 82, or one that isn't last";
+    OtherProtocol = 8, "option 90 is not delayed authentication with HMAC-MD5 and a counter";
+    RequestForm = 9, "option 90 is a request, without id and MAC";
+    NoRow = 10, "the secret id has no row";
+    Replay = 11, "the counter is not above the row's received one";
+    WrongMac = 12, "the MAC differs";
+    CounterSpent = 13, "the sent counter is at its last value";
+    DigestSize = 14, "the digest's total would pass 65,535 bytes, or the key is above 64 bytes";
+    CardMalformed = 15, "the card is malformed";
+    CardRoom = 16, "the room for the card is too small";
+    BookRoom = 17, "the card has more rows than there is room for";
+}
+
+impl Refusal {
+    /// The answer that a number stands for: `Ok` for 0. A number that the interface doesn't have is
+    /// a broken library.
+    pub(crate) fn from_number(number: u8) -> Result<(), Refusal> {
+        if number == 0 {
+            return Ok(());
+        }
+        let named = Self::ALL.iter().find(|r| r.number() == number);
+        Err(*named.unwrap_or_else(|| panic!("the library returned the number {number}")))
+    }
+}
+
+impl fmt::Display for Refusal {
+    fn fmt(&self, f: &mut fmt::Formatter<'_>) -> fmt::Result {
+        write!(f, "refused {}: {}", self.number(), self.words())
+    }
+}
+
+impl Error for Refusal {}

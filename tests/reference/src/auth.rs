@@ -1,0 +1,135 @@
+//! Check, key of a message and seal (document 01, 'Check, key and seal'; RFC 3118, section 5).
+
+use crate::book::Book;
+use crate::hmac::hmac_md5;
+use crate::message::{covered_image, full_form, number, Shape};
+use crate::refusal::Refusal;
+use std::ops::Range;
+
+/// What a check returns with 0.
+#[derive(Clone, Copy, Debug, PartialEq, Eq)]
+pub struct Accepted {
+    pub row: usize,
+    pub counter: u64,
+}
+
+/// Checks a message: numbers 1 to 12, the replay field before the MAC. Accepted, its counter is
+/// stored.
+pub fn check(book: &mut Book, message: &[u8]) -> Result<Accepted, Refusal> {
+    let (shape, row) = named_row(book, message)?;
+    let counter = number(&message[shape.counter()]);
+    if counter <= book.received[row] {
+        return Err(Refusal::Replay);
+    }
+    let mac = hmac_md5(book.key(row), &covered_image(message, &shape));
+    if message[shape.mac()] != mac {
+        return Err(Refusal::WrongMac);
+    }
+    book.received[row] = counter;
+    Ok(Accepted { row, counter })
+}
+
+/// Where in the key store the key is that a message names: numbers 1 to 10.
+pub fn key_of_message(book: &Book, message: &[u8]) -> Result<Range<usize>, Refusal> {
+    let (_, row) = named_row(book, message)?;
+    Ok(book.key_place(row))
+}
+
+/// Seals a message under an id: numbers 1 to 9, then 10 for that id, then 13. Returns the counter
+/// written.
+pub fn seal(book: &mut Book, id: u32, message: &mut [u8]) -> Result<u64, Refusal> {
+    if !book.is_sound() {
+        return Err(Refusal::BookNotSound);
+    }
+    let shape = full_form(message)?;
+    let row = book.row_of(id).ok_or(Refusal::NoRow)?;
+    let counter = book.sent[row].checked_add(1).ok_or(Refusal::CounterSpent)?;
+    sign(message, &shape, book.key(row), id, counter);
+    book.sent[row] = counter;
+    Ok(counter)
+}
+
+/// Writes counter, id and the MAC of the resulting image into a message in full form.
+pub fn sign(message: &mut [u8], shape: &Shape, key: &[u8], id: u32, counter: u64) {
+    message[shape.counter()].copy_from_slice(&counter.to_be_bytes());
+    message[shape.secret_id()].copy_from_slice(&id.to_be_bytes());
+    let mac = hmac_md5(key, &covered_image(message, shape));
+    message[shape.mac()].copy_from_slice(&mac);
+}
+
+/// The id that a message in full form names.
+pub fn named_id(message: &[u8], shape: &Shape) -> u32 {
+    number(&message[shape.secret_id()]) as u32
+}
+
+/// Numbers 1 to 10 for the id that the message names.
+fn named_row(book: &Book, message: &[u8]) -> Result<(Shape, usize), Refusal> {
+    if !book.is_sound() {
+        return Err(Refusal::BookNotSound);
+    }
+    let shape = full_form(message)?;
+    let row = book
+        .row_of(named_id(message, &shape))
+        .ok_or(Refusal::NoRow)?;
+    Ok((shape, row))
+}
+
+#[cfg(test)]
+mod tests {
+    use super::*;
+    use crate::examples::{book_b, full_option_90, message_with};
+
+    fn plain() -> Vec<u8> {
+        message_with(&[&full_option_90(0, 0)[..], &[255]].concat())
+    }
+
+    #[test]
+    fn a_sealed_message_passes_once() {
+        let mut book = book_b();
+        book.sent[0] = 41;
+        let mut message = plain();
+        let before = message.clone();
+        assert_eq!(seal(&mut book, 7, &mut message), Ok(42));
+        assert_eq!(book.sent, [42]);
+        let o = 240;
+        assert_eq!(message[..o + 5], before[..o + 5]);
+        assert_eq!(message[o + 33..], before[o + 33..]);
+
+        let accepted = Accepted {
+            row: 0,
+            counter: 42,
+        };
+        assert_eq!(check(&mut book, &message), Ok(accepted));
+        assert_eq!(book.received, [42]);
+        assert_eq!(check(&mut book, &message), Err(Refusal::Replay));
+    }
+
+    #[test]
+    fn seal_refuses_an_unknown_id_and_a_spent_counter() {
+        let mut book = book_b();
+        book.sent[0] = u64::MAX;
+        let before = book.clone();
+        let mut message = plain();
+        assert_eq!(seal(&mut book, 8, &mut message), Err(Refusal::NoRow));
+        assert_eq!(seal(&mut book, 7, &mut message), Err(Refusal::CounterSpent));
+        assert_eq!((book, message), (before, plain()));
+    }
+
+    #[test]
+    fn the_last_counter_is_accepted_and_then_no_other() {
+        let mut book = book_b();
+        let mut last = plain();
+        let shape = full_form(&last).unwrap();
+        sign(&mut last, &shape, &[1, 2, 3, 4], 7, u64::MAX);
+        assert!(check(&mut book, &last).is_ok());
+        assert_eq!(check(&mut book, &last), Err(Refusal::Replay));
+    }
+
+    #[test]
+    fn key_of_a_message_is_a_part_of_the_store() {
+        let book = book_b();
+        let named = message_with(&[&full_option_90(7, 0)[..], &[255]].concat());
+        assert_eq!(key_of_message(&book, &named), Ok(0..4));
+        assert_eq!(key_of_message(&book, &plain()), Err(Refusal::NoRow));
+    }
+}

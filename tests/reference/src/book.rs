@@ -1,0 +1,116 @@
+//! The key book as a caller lends it (document 01, 'The key book').
+
+use std::ops::Range;
+
+/// The most rows in use, the bytes of a key slot, and the most rows there may be room for.
+pub const ROWS_MOST: usize = 64;
+pub const SLOT: usize = 64;
+pub const ROOM_MOST: usize = 1_024;
+
+/// The lent parts, of any sizes. Of each, the rows from `rows` on affect no answer, nor do slot
+/// bytes past a key.
+#[derive(Clone, Debug, PartialEq, Eq, Default)]
+pub struct Book {
+    pub ids: Vec<u32>,
+    pub key_lengths: Vec<u8>,
+    pub key_store: Vec<u8>,
+    pub received: Vec<u64>,
+    pub sent: Vec<u64>,
+    pub rows: usize,
+}
+
+impl Book {
+    /// Whether all parts have room for the same number of rows, 1,024 at the most.
+    pub fn sizes_agree(&self) -> bool {
+        let n = self.ids.len();
+        n <= ROOM_MOST
+            && self.key_lengths.len() == n
+            && self.key_store.len() == SLOT * n
+            && self.received.len() == n
+            && self.sent.len() == n
+    }
+
+    /// Whether the book is sound.
+    pub fn is_sound(&self) -> bool {
+        self.sizes_agree()
+            && self.rows <= self.ids.len()
+            && self.rows <= ROWS_MOST
+            && ascend_strictly(&self.ids[..self.rows])
+            && self.key_lengths[..self.rows]
+                .iter()
+                .all(|length| (1..=SLOT).contains(&usize::from(*length)))
+    }
+
+    /// The row of an id, among those in use.
+    pub fn row_of(&self, id: u32) -> Option<usize> {
+        (0..self.rows).find(|row| self.ids[*row] == id)
+    }
+
+    /// Where in the key store a row's key is.
+    pub fn key_place(&self, row: usize) -> Range<usize> {
+        SLOT * row..SLOT * row + usize::from(self.key_lengths[row])
+    }
+
+    /// A row's key.
+    pub fn key(&self, row: usize) -> &[u8] {
+        &self.key_store[self.key_place(row)]
+    }
+}
+
+/// Whether each id is above the one before it.
+pub fn ascend_strictly(ids: &[u32]) -> bool {
+    ids.windows(2).all(|pair| pair[0] < pair[1])
+}
+
+#[cfg(test)]
+mod tests {
+    use super::*;
+    use crate::examples::book_b;
+
+    /// Book B changed in one place.
+    fn sound_after(change: impl Fn(&mut Book)) -> bool {
+        let mut book = book_b();
+        change(&mut book);
+        book.is_sound()
+    }
+
+    #[test]
+    fn sizes_must_agree() {
+        assert!(sound_after(|_| {}));
+        assert!(!sound_after(|b| b.ids.push(9)));
+        assert!(!sound_after(|b| b.key_lengths.push(9)));
+        assert!(!sound_after(|b| b.key_store.push(9)));
+        assert!(!sound_after(|b| b.received.push(9)));
+        assert!(!sound_after(|b| b.sent.push(9)));
+    }
+
+    #[test]
+    fn rows_ids_and_key_lengths() {
+        assert!(sound_after(|b| b.rows = 0));
+        assert!(!sound_after(|b| b.rows = 2));
+        assert!(!sound_after(|b| b.rows = usize::MAX));
+        assert!(!sound_after(|b| b.key_lengths[0] = 0));
+        assert!(sound_after(|b| b.key_lengths[0] = 64));
+        assert!(!sound_after(|b| b.key_lengths[0] = 65));
+        assert!(ascend_strictly(&[]) && ascend_strictly(&[0, u32::MAX]));
+        assert!(!ascend_strictly(&[3, 3]) && !ascend_strictly(&[1, 3, 2]));
+    }
+
+    fn room_for(n: usize, rows: usize) -> Book {
+        Book {
+            ids: (0..n as u32).collect(),
+            key_lengths: vec![1; n],
+            key_store: vec![0; SLOT * n],
+            received: vec![0; n],
+            sent: vec![0; n],
+            rows,
+        }
+    }
+
+    #[test]
+    fn at_most_1024_rows_of_room_and_64_in_use() {
+        assert!(room_for(1_024, 64).is_sound());
+        assert!(!room_for(1_025, 64).is_sound());
+        assert!(!room_for(1_024, 65).is_sound());
+    }
+}

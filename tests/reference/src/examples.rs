@@ -1,0 +1,198 @@
+//! Examples with outside answers: RFC 1321's digests, RFC 2202's HMAC-MD5 cases, and the bench
+//! examples of document 01. They are data only, so that every implementation can be held against
+//! them.
+
+use crate::book::Book;
+use crate::message::{AUTHENTICATION, COOKIE, COOKIE_AT, RELAY_AGENT};
+
+/// RFC 1321's test suite (appendix A.5): message and digest.
+pub const RFC_1321: [(&str, &str); 7] = [
+    ("", "d41d8cd98f00b204e9800998ecf8427e"),
+    ("a", "0cc175b9c0f1b6a831c399e269772661"),
+    ("abc", "900150983cd24fb0d6963f7d28e17f72"),
+    ("message digest", "f96b697d7cb7938d525a2f31aaf161d0"),
+    (
+        "abcdefghijklmnopqrstuvwxyz",
+        "c3fcd3d76192e4007dfb496cca67e13b",
+    ),
+    (
+        "ABCDEFGHIJKLMNOPQRSTUVWXYZabcdefghijklmnopqrstuvwxyz0123456789",
+        "d174ab98d277d9f5a5611c2c9f419d9f",
+    ),
+    (
+        "12345678901234567890123456789012345678901234567890123456789012345678901234567890",
+        "57edf4a22be3c955ac49da2e2107b67a",
+    ),
+];
+
+/// A case of RFC 2202, section 2.
+pub struct HmacCase {
+    pub number: usize,
+    pub key: Vec<u8>,
+    pub message: Vec<u8>,
+    pub mac: &'static str,
+}
+
+/// RFC 2202's HMAC-MD5 cases. The keys of 6 and 7 have 80 bytes, which the library refuses.
+pub fn rfc_2202() -> Vec<HmacCase> {
+    let case = |number, key: &[u8], message: &[u8], mac| HmacCase {
+        number,
+        key: key.to_vec(),
+        message: message.to_vec(),
+        mac,
+    };
+    let one_to_25: Vec<u8> = (1..=25).collect();
+    vec![
+        case(
+            1,
+            &[0x0b; 16],
+            b"Hi There",
+            "9294727a3638bb1c13f48ef8158bfc9d",
+        ),
+        case(
+            2,
+            b"Jefe",
+            b"what do ya want for nothing?",
+            "750c783e6ab0b503eaa86e310a5db738",
+        ),
+        case(
+            3,
+            &[0xaa; 16],
+            &[0xdd; 50],
+            "56be34521d144c88dbb8c733f0e8b3f6",
+        ),
+        case(
+            4,
+            &one_to_25,
+            &[0xcd; 50],
+            "697eaf0aca3a3aea3a75164746ffaa79",
+        ),
+        case(
+            5,
+            &[0x0c; 16],
+            b"Test With Truncation",
+            "56461ef2342edc00f9bab995690efd4c",
+        ),
+        case(
+            6,
+            &[0xaa; 80],
+            b"Test Using Larger Than Block-Size Key - Hash Key First",
+            "6b1ab7fe4bd7bf8f0b62e6ce61b9d0cd",
+        ),
+        case(
+            7,
+            &[0xaa; 80],
+            b"Test Using Larger Than Block-Size Key and Larger Than One Block-Size Data",
+            "6f630fad67cda0ee1fb1f562db3aa53e",
+        ),
+    ]
+}
+
+/// Lower-case hexadecimal, as the RFCs print digests.
+pub fn hex(bytes: &[u8]) -> String {
+    bytes.iter().map(|byte| format!("{byte:02x}")).collect()
+}
+
+/// Book B: one row, id 7, received 10, sent 3, key 1, 2, 3, 4.
+pub fn book_b() -> Book {
+    let mut key_store = vec![1, 2, 3, 4];
+    key_store.resize(64, 0);
+    Book {
+        ids: vec![7],
+        key_lengths: vec![4],
+        key_store,
+        received: vec![10],
+        sent: vec![3],
+        rows: 1,
+    }
+}
+
+/// Bench example 1: B's card.
+pub const CARD_B: [u8; 34] = [
+    0x1A, 0x00, 0x01, 0x00, 0x07, 0x00, 0x00, 0x00, 0x0A, 0x00, 0x00, 0x00, 0x00, 0x00, 0x00, 0x00,
+    0x03, 0x00, 0x00, 0x00, 0x00, 0x00, 0x00, 0x00, 0x01, 0x02, 0x03, 0x04, 0x04, 0x00, 0x02, 0x00,
+    0x01, 0x00,
+];
+
+/// Bench example 2: the card of no rows.
+pub const CARD_EMPTY: [u8; 6] = [0x04, 0x00, 0x02, 0x00, 0x00, 0x00];
+
+/// 236 zeros, the cookie and the given options.
+pub fn message_with(options: &[u8]) -> Vec<u8> {
+    let mut message = vec![0; COOKIE_AT];
+    message.extend_from_slice(&COOKIE);
+    message.extend_from_slice(options);
+    message
+}
+
+/// An option 90 in full form, its MAC sixteen bytes 0xEE.
+pub fn full_option_90(id: u32, counter: u64) -> Vec<u8> {
+    let mut option = vec![AUTHENTICATION, 31, 1, 1, 0];
+    option.extend_from_slice(&counter.to_be_bytes());
+    option.extend_from_slice(&id.to_be_bytes());
+    option.extend_from_slice(&[0xEE; 16]);
+    option
+}
+
+/// A message that B judges, and the number it gets.
+pub struct CheckExample {
+    pub name: &'static str,
+    pub message: Vec<u8>,
+    pub number: u8,
+}
+
+/// Bench examples 3 to 9, but for the message put right. (Of example 3, 1,472 bytes pass number 2:
+/// they are zeros here, so that the cookie is what differs.)
+pub fn refused_by_b() -> Vec<CheckExample> {
+    let example = |name, number, message| CheckExample {
+        name,
+        message,
+        number,
+    };
+    let with = |options: &[&[u8]]| message_with(&options.concat());
+    let auth = full_option_90(7, 11);
+    let mut protocol_0 = auth.clone();
+    protocol_0[2] = 0;
+    let request = [&[AUTHENTICATION, 11, 1, 1, 0][..], &[0; 8]].concat();
+    let mut one_bit_off = accepted_by_b();
+    one_bit_off[240 + 32] ^= 1;
+    vec![
+        example("3: 240 bytes", 2, message_with(&[])),
+        example("3: 1,473 bytes", 2, vec![0; 1_473]),
+        example("3: 1,472 bytes", 3, vec![0; 1_472]),
+        example("4: no option 90", 5, with(&[&[53, 1, 5, 255]])),
+        example(
+            "5: 90, 31 and 30 bytes",
+            4,
+            with(&[&[AUTHENTICATION, 31], &[0; 30]]),
+        ),
+        example(
+            "6: 90, 82, 53, End",
+            7,
+            with(&[&auth, &[RELAY_AGENT, 1, 9, 53, 1, 5, 255]]),
+        ),
+        example("7: request form", 9, with(&[&request, &[255]])),
+        example("7: protocol 0", 8, with(&[&protocol_0, &[255]])),
+        example("8: id 8", 10, with(&[&full_option_90(8, 11), &[255]])),
+        example(
+            "8: counter 10, wrong MAC",
+            11,
+            with(&[&full_option_90(7, 10), &[255]]),
+        ),
+        example("9: one MAC bit off", 12, one_bit_off),
+    ]
+}
+
+/// Bench example 9, put right: id 7, counter 11, with the MAC that OpenSSL's command line gives
+/// (openssl dgst -md5 -mac HMAC -macopt hexkey:01020304).
+pub fn accepted_by_b() -> Vec<u8> {
+    let mut message = message_with(&[&full_option_90(7, 11)[..], &[255]].concat());
+    message[240 + 17..240 + 33].copy_from_slice(&ACCEPTED_MAC);
+    message
+}
+
+/// HMAC-MD5 under the key 1, 2, 3, 4 of 236 zeros, the cookie, 90, 31, 1, 1, 0, the counter 11, the
+/// id 7, sixteen zeros and End.
+const ACCEPTED_MAC: [u8; 16] = [
+    0xee, 0x98, 0xf4, 0xdb, 0xee, 0x5b, 0xeb, 0x3f, 0x0c, 0x40, 0x06, 0xa8, 0x69, 0x30, 0x26, 0x69,
+];

@@ -1,0 +1,25 @@
+//! A second implementation of what the library does, to compare it with: plain, slow and obvious.
+//!
+//! It is written from the papers alone: document 01's rules over RFC 1321 (MD5), RFC 2104 (HMAC),
+//! RFC 2131 and 2132 (the message and its options), RFC 3046 (option 82) and RFC 3118 (option 90).
+//! It shares no line with the proved library, copies freely and looks at everything from the start
+//! again, since nobody waits for it.
+
+#![forbid(unsafe_code)]
+
+pub mod auth;
+pub mod book;
+pub mod card;
+pub mod examples;
+pub mod hmac;
+pub mod md5;
+pub mod message;
+pub mod refusal;
+pub mod relay;
+
+pub use auth::{check, key_of_message, seal, Accepted};
+pub use book::Book;
+pub use card::{read_card, write_card};
+pub use hmac::hmac;
+pub use md5::digest;
+pub use refusal::Refusal;

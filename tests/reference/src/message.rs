@@ -1,0 +1,234 @@
+//! The DHCPv4 message: its fixed part, its options, numbers 2 to 9, and the image that the MAC
+//! covers.
+//!
+//! Fixed part (RFC 2131), by offset: hops 3; giaddr 24..28; cookie 236..240; options from 240.
+//!
+//! Option 90 in full form (RFC 3118, section 5.2), by offset from its code: code 0, length 1,
+//! protocol 2, algorithm 3, replay method 4, counter 5..13, secret id 13..17, MAC 17..33. Numbers
+//! are big-endian.
+
+use crate::refusal::Refusal;
+use std::ops::Range;
+
+pub const MESSAGE_LEAST: usize = 241;
+pub const MESSAGE_MOST: usize = 1_472;
+
+pub const HOPS_AT: usize = 3;
+pub const GIADDR: Range<usize> = 24..28;
+pub const COOKIE_AT: usize = 236;
+pub const COOKIE: [u8; 4] = [99, 130, 83, 99];
+pub const OPTIONS_AT: usize = 240;
+
+pub const PAD: u8 = 0;
+pub const RELAY_AGENT: u8 = 82;
+pub const AUTHENTICATION: u8 = 90;
+pub const END: u8 = 255;
+
+/// Body lengths of option 90: the full form, and the request form without id and MAC.
+pub const FULL_LENGTH: usize = 31;
+pub const REQUEST_LENGTH: usize = 11;
+
+/// What option 90's body begins with: protocol 1, algorithm 1, replay method 0.
+pub const DELAYED_HMAC_MD5: [u8; 3] = [1, 1, 0];
+
+/// An option as it stands in a message.
+#[derive(Clone, Copy, Debug, PartialEq, Eq)]
+pub struct OptionAt {
+    pub code: u8,
+    /// The offset of its code.
+    pub at: usize,
+    /// The length of its body.
+    pub length: usize,
+}
+
+impl OptionAt {
+    /// Code, length and body.
+    pub fn whole(self) -> Range<usize> {
+        self.at..self.at + 2 + self.length
+    }
+
+    pub fn body(self) -> Range<usize> {
+        self.at + 2..self.at + 2 + self.length
+    }
+}
+
+/// What numbers 2 to 7 find out about a message that passes them.
+#[derive(Clone, Copy, Debug, PartialEq, Eq)]
+pub struct Shape {
+    /// The one option 90.
+    pub authentication: OptionAt,
+    /// The option 82, where there is one.
+    pub relay_agent: Option<OptionAt>,
+    /// The offset of the first End.
+    pub end_at: usize,
+}
+
+impl Shape {
+    pub fn counter(&self) -> Range<usize> {
+        let o = self.authentication.at;
+        o + 5..o + 13
+    }
+
+    pub fn secret_id(&self) -> Range<usize> {
+        let o = self.authentication.at;
+        o + 13..o + 17
+    }
+
+    pub fn mac(&self) -> Range<usize> {
+        let o = self.authentication.at;
+        o + 17..o + 33
+    }
+}
+
+/// Numbers 2 to 7: size, cookie, options, and which of them there are.
+pub fn shape(message: &[u8]) -> Result<Shape, Refusal> {
+    if message.len() < MESSAGE_LEAST || message.len() > MESSAGE_MOST {
+        return Err(Refusal::MessageSize);
+    }
+    if message[COOKIE_AT..COOKIE_AT + 4] != COOKIE {
+        return Err(Refusal::Cookie);
+    }
+    let (options, end_at) = read_options(message).ok_or(Refusal::OptionsCut)?;
+    let authentications = of_code(&options, AUTHENTICATION);
+    if authentications.is_empty() {
+        return Err(Refusal::NoAuthentication);
+    }
+    if authentications.len() > 1 {
+        return Err(Refusal::TwoAuthentications);
+    }
+    let relay_agents = of_code(&options, RELAY_AGENT);
+    if relay_agents.len() > 1 {
+        return Err(Refusal::RelayOption);
+    }
+    let relay_agent = relay_agents.first().copied();
+    if relay_agent.is_some() && relay_agent != options.last().copied() {
+        return Err(Refusal::RelayOption);
+    }
+    Ok(Shape {
+        authentication: authentications[0],
+        relay_agent,
+        end_at,
+    })
+}
+
+/// Numbers 2 to 9: on top of the above, option 90 is delayed authentication in full form.
+pub fn full_form(message: &[u8]) -> Result<Shape, Refusal> {
+    let shape = shape(message)?;
+    let body = &message[shape.authentication.body()];
+    let length = body.len();
+    if length != FULL_LENGTH && length != REQUEST_LENGTH {
+        return Err(Refusal::OtherProtocol);
+    }
+    if body[..3] != DELAYED_HMAC_MD5 {
+        return Err(Refusal::OtherProtocol);
+    }
+    if length == REQUEST_LENGTH {
+        return Err(Refusal::RequestForm);
+    }
+    Ok(shape)
+}
+
+/// The options before the first End, pads left out, and the offset of that End. None where an
+/// option passes the message's end or there is no End.
+fn read_options(message: &[u8]) -> Option<(Vec<OptionAt>, usize)> {
+    let mut options = Vec::new();
+    let mut at = OPTIONS_AT;
+    loop {
+        let code = *message.get(at)?;
+        if code == END {
+            return Some((options, at));
+        }
+        if code == PAD {
+            at += 1;
+            continue;
+        }
+        let length = usize::from(*message.get(at + 1)?);
+        let option = OptionAt { code, at, length };
+        message.get(option.whole())?;
+        at = option.whole().end;
+        options.push(option);
+    }
+}
+
+fn of_code(options: &[OptionAt], code: u8) -> Vec<OptionAt> {
+    options.iter().copied().filter(|o| o.code == code).collect()
+}
+
+/// The covered image of a message in full form: hops, giaddr and the MAC zero, the whole of option
+/// 82 taken out, the rest in its order (RFC 3118, sections 3 and 5.3).
+pub fn covered_image(message: &[u8], shape: &Shape) -> Vec<u8> {
+    let mut image = message.to_vec();
+    image[HOPS_AT] = 0;
+    image[GIADDR].fill(0);
+    image[shape.mac()].fill(0);
+    if let Some(relay_agent) = shape.relay_agent {
+        image.drain(relay_agent.whole());
+    }
+    image
+}
+
+/// A big-endian number of up to eight bytes.
+pub fn number(bytes: &[u8]) -> u64 {
+    bytes.iter().fold(0, |n, byte| (n << 8) | u64::from(*byte))
+}
+
+#[cfg(test)]
+mod tests {
+    use super::*;
+    use crate::examples::{full_option_90, message_with};
+
+    fn number_given(options: &[u8]) -> u8 {
+        crate::refusal::number_of(&full_form(&message_with(options)))
+    }
+
+    #[test]
+    fn a_byte_90_in_a_body_is_no_option() {
+        assert_eq!(number_given(&[53, 2, 90, 31, 255]), 5);
+    }
+
+    #[test]
+    fn nothing_after_end_is_read() {
+        let after_end = [&[53, 1, 5, 255][..], &full_option_90(7, 11)].concat();
+        assert_eq!(number_given(&after_end), 5);
+        let twice = [&full_option_90(7, 11)[..], &[255], &full_option_90(7, 11)].concat();
+        assert_eq!(number_given(&twice), 0);
+    }
+
+    #[test]
+    fn only_pads_between_82_and_end() {
+        let auth = full_option_90(7, 11);
+        let last = [&auth[..], &[82, 1, 9, 0, 0, 255]].concat();
+        assert_eq!(number_given(&last), 0);
+        let before_90 = [&[82, 1, 9][..], &auth, &[255]].concat();
+        assert_eq!(number_given(&before_90), 7);
+        let twice = [&auth[..], &[82, 0, 82, 0, 255]].concat();
+        assert_eq!(number_given(&twice), 7);
+    }
+
+    #[test]
+    fn the_lowest_number_is_given() {
+        let no_90_and_82_first = [82, 0, 53, 0, 255];
+        assert_eq!(number_given(&no_90_and_82_first), 5);
+        let two_90_and_two_82 = [90, 0, 82, 0, 90, 0, 82, 0, 255];
+        assert_eq!(number_given(&two_90_and_two_82), 6);
+        let length_3_after_82 = [82, 0, 90, 3, 1, 1, 0, 255];
+        assert_eq!(number_given(&length_3_after_82), 7);
+    }
+
+    #[test]
+    fn image_has_82_taken_out_and_only_the_mac_of_90_zero() {
+        let options = [&full_option_90(7, 11)[..], &[0, 82, 2, 8, 9, 0, 255, 4]].concat();
+        let mut message = message_with(&options);
+        message[HOPS_AT] = 3;
+        message[GIADDR].copy_from_slice(&[1, 2, 3, 4]);
+        let shape = full_form(&message).unwrap();
+        let image = covered_image(&message, &shape);
+
+        let mut expected = message_with(&[]);
+        expected.extend_from_slice(&full_option_90(7, 11)[..17]);
+        expected.extend_from_slice(&[0; 16]);
+        expected.extend_from_slice(&[0, 0, 255, 4]);
+        assert_eq!(image, expected);
+        assert_eq!(image.len(), message.len() - 4);
+    }
+}

@@ -1,0 +1,68 @@
+//! The bench examples of document 01, by number, on the second implementation. (Example 9's program
+//! is run by the tests beside the library.)
+
+use reference::examples::{accepted_by_b, book_b, refused_by_b, CARD_B, CARD_EMPTY};
+use reference::refusal::number_of;
+use reference::{check, read_card, write_card, Accepted, Book, Refusal};
+
+/// Room for some rows, all bytes and numbers 0.
+fn room_for(n: usize) -> Book {
+    Book {
+        ids: vec![0; n],
+        key_lengths: vec![0; n],
+        key_store: vec![0; 64 * n],
+        received: vec![0; n],
+        sent: vec![0; n],
+        rows: 0,
+    }
+}
+
+#[test]
+fn example_1_card_of_b() {
+    let mut room = [0; 34];
+    assert_eq!(write_card(&book_b(), &mut room), Ok(34));
+    assert_eq!(room, CARD_B);
+
+    let mut read = room_for(1);
+    assert_eq!(read_card(&CARD_B, &mut read), Ok(1));
+    read.rows = 1;
+    assert_eq!(read, book_b());
+}
+
+#[test]
+fn example_2_empty_card() {
+    assert_eq!(read_card(&CARD_EMPTY, &mut room_for(0)), Ok(0));
+    let longer = [&CARD_EMPTY[..], &[0]].concat();
+    let answer = read_card(&longer, &mut room_for(0));
+    assert_eq!(answer, Err(Refusal::CardMalformed));
+}
+
+#[test]
+fn examples_3_to_9_refused() {
+    for example in refused_by_b() {
+        let mut book = book_b();
+        let answer = check(&mut book, &example.message);
+        assert_eq!(number_of(&answer), example.number, "{}", example.name);
+        assert_eq!(book, book_b(), "{}", example.name);
+    }
+}
+
+#[test]
+fn example_9_put_right() {
+    let mut book = book_b();
+    let accepted = Accepted {
+        row: 0,
+        counter: 11,
+    };
+    assert_eq!(check(&mut book, &accepted_by_b()), Ok(accepted));
+    assert_eq!(book.received, [11]);
+}
+
+#[test]
+fn example_10_key_lengths() {
+    let mut book = book_b();
+    book.key_lengths[0] = 64;
+    assert!(book.is_sound());
+    book.key_lengths[0] = 65;
+    assert!(!book.is_sound());
+}
