@@ -23,7 +23,7 @@ use Rattle.dhcp_message.specs.declared.Places.{Places}
 use Rattle.dhcp_message.specs.declared.Auth.{Auth}
 use Rattle.dhcp_message.specs.declared.Form.{Form}
 use Rattle.dhcp_message.specs.declared.Form.the-variants.{Refused, Full}
-use Rattle.dhcp_message.proofs.Lists.{length-written, written-over, written-join, written-part, written-same, drop-written, written-body, starts-append, at-32, at-64, below-32, below-64, read-32, read-64, bytes-left, bytes-drop}
+use Rattle.dhcp_message.proofs.Lists.{length-written, written-over, written-join, written-part, written-same, drop-written, written-body, starts-append, at-32, at-64, below-32, below-64, read-32, read-64, bytes-append, bytes-left, bytes-drop, bytes-written}
 use Rattle.dhcp_message.proofs.Decoding.{Codes}
 use Rattle.dhcp_message.proofs.Tokens.{Split, encode-append, option-there, without-append, zero-append}
 use Rattle.dhcp_message.proofs.Passing.{Passing, passing, checks, passing-27, passing-built, take-built, header-size, header-magic, codes, around, front-size, option-is, from-option, split-90}
@@ -375,6 +375,15 @@ lone-fields m at counter id h =
     ∙ ap (λ (x : List ℕ). written (at + 12) (take 16 x) w) d
     ∙ written-join at (at + 12) f (take 16 (drop (at + 12) m)) m refl (omega arith)
 
+bytes-of-32 : (x : ℕ) → Bytes (bytes32 x)
+bytes-of-32 x = (omega arith, (omega arith, (omega arith, (omega arith, tt))))
+
+bytes-of-fields : (counter id : ℕ) → Bytes (fields counter id)
+bytes-of-fields counter id =
+    bytes-append (bytes64 counter) (bytes32 id)
+    (bytes-append (bytes32 (counter / 4294967296)) (bytes32 (counter % 4294967296)) (bytes-of-32 (counter / 4294967296)) (bytes-of-32 (counter % 4294967296)))
+    (bytes-of-32 id)
+
 pub seal-laws : SealLaws
 unfolding coverSize coverLeft coverBytes coverFits
 seal-laws = record {
@@ -388,5 +397,6 @@ seal-laws = record {
   fields-lent = lent-fields;
   mac-lent = lent-mac;
   fields-alone = lone-fields;
+  bytes-kept = λ m at counter id mac b h. bytes-written at (fields counter id ++ mac) m (bytes-append (fields counter id) mac (bytes-of-fields counter id) b) h;
   mac-behind = λ m at counter id mac h. written-join at (at + 12) (fields counter id) mac m refl (omega arith);
 }

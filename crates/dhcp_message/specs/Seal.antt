@@ -68,4 +68,5 @@ pub record SealLaws : Type 0 where
   pub fields-lent : (m : List ℕ) (at size counter id : ℕ) → size ≡ sealSize → at + size ≤ length m → take at m ++ (fieldsPut (take size (drop at m)) counter id ++ drop size (drop at m)) ≡ written at (fields counter id) m
   pub mac-lent : (m : List ℕ) (at size : ℕ) (mac : List ℕ) → size ≡ sealSize → length mac ≡ macSize → at + size ≤ length m → take at m ++ (macPut (take size (drop at m)) mac ++ drop size (drop at m)) ≡ written (at + fieldsSize) mac m
   pub fields-alone : (m : List ℕ) (at counter id : ℕ) → at + sealSize ≤ length m → written at (fields counter id) m ≡ written at (fields counter id ++ take macSize (drop (at + fieldsSize) m)) m
+  pub bytes-kept : (m : List ℕ) (at counter id : ℕ) (mac : List ℕ) → Bytes mac → Bytes m → Bytes (written at (fields counter id ++ mac) m)
   pub mac-behind : (m : List ℕ) (at counter id : ℕ) (mac : List ℕ) → at + sealSize ≤ length m → written (at + fieldsSize) mac (written at (fields counter id) m) ≡ written at (fields counter id ++ mac) m
