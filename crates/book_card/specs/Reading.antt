@@ -5,6 +5,7 @@ use mathlib.Core.List.{List, [], _∷_, _++_, map}
 use Prim.Native.Nat.{ℕ, _-_}
 use lib.Dec.{ltb}
 use lib.ListN.{length, drop, replicate}
+use Rattle.refusal.specs.Number.{numberOf, done}
 use Rattle.refusal.specs.declared.Refusal.the-variants.{UnsoundBook, MalformedCard, NoRoomForRows}
 use Rattle.key_book.specs.Limits.{slotSize}
 use Rattle.key_book.specs.Book.{Book, bookOf, sized}
@@ -61,3 +62,8 @@ readBook b card = readBy b card (readOf b card)
 abbrev pub rowsGiven : ReadAnswer → ℕ
 rowsGiven (Refused x) = 0
 rowsGiven (Rows n) = n
+
+-- the paper's number of an answer
+abbrev pub readNumber : ReadAnswer → ℕ
+readNumber (Refused x) = numberOf x
+readNumber (Rows n) = done

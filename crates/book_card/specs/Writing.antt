@@ -4,6 +4,7 @@ use mathlib.Core.List.{List, [], _∷_, _++_}
 use Prim.Native.Nat.{ℕ, zero, suc, _+_}
 use lib.Dec.{ltb}
 use lib.ListN.{length, getD, drop}
+use Rattle.refusal.specs.Number.{numberOf, done}
 use Rattle.refusal.specs.declared.Refusal.the-variants.{UnsoundBook, NoRoomForCard}
 use Rattle.key_book.specs.Book.{Book, sound, keyOf}
 use Rattle.book_card.specs.Card.{Row, cardOf}
@@ -41,3 +42,8 @@ writtenBy b room (Size n) = cardOf (rowsOf b) ++ drop n room
 
 unfoldable pub written : Book → List ℕ → List ℕ
 written b room = writtenBy b room (writeOf b (length room))
+
+-- the paper's number of an answer
+abbrev pub writeNumber : WriteAnswer → ℕ
+writeNumber (Refused x) = numberOf x
+writeNumber (Size n) = done

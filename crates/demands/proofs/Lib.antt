@@ -8,3 +8,5 @@ pub mod Demand3
 pub mod Example3
 pub mod Woven
 pub mod LastCounter
+pub mod Lowest
+pub mod Demand1

@@ -5,3 +5,4 @@ pub mod Dependence
 pub mod Example3
 pub mod Woven
 pub mod LastCounter
+pub mod Demand1

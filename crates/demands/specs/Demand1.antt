@@ -1,0 +1,104 @@
+-- Demand 1 (document 00; document 01, 'Numbers given back'): any bytes, any book. For each entry it is said when each of its numbers applies, in
+-- the paper's words; the entry gives the lowest number that applies, 0 exactly where none does, and a refusal alters nothing lent.
+-- Nothing is asked of the book; of a message and a card only that their elements are bytes. Its one proof is proofs/Demand1.antt.
+use Prim.Native.Nat.{ℕ, _+_, _<_, _≤_}
+use mathlib.Core.Path.{_≡_}
+use mathlib.Core.Logic.{_↔_, _≢_, _⊎_}
+use mathlib.Core.List.{List, []}
+use mathlib.Core.Option.{some}
+use lib.ListN.{length, getD}
+use Rattle.refusal.specs.Number.{numberOf, done}
+use Rattle.refusal.specs.declared.Refusal.{Refusal}
+use Rattle.refusal.specs.declared.Refusal.the-variants.{UnsoundBook, UnknownSecret, Replay, WrongMac, CounterSpent, TooLong, MalformedCard, NoRoomForCard, NoRoomForRows}
+use Rattle.md5.specs.declared.Digest.{Digest}
+use Rattle.md5.specs.Block.{blockSize}
+use Rattle.md5.specs.Entries.{digestMost, noDigest, feedOf, finishOf, md5Of}
+use Rattle.hmac_md5.specs.Hmac.{keyMost, hmac, hmacOf}
+use Rattle.dhcp_message.specs.Bytes.{Bytes}
+use Rattle.dhcp_message.specs.Said.{says, saidOf, named}
+use Rattle.dhcp_message.specs.Image.{imageOf}
+use Rattle.dhcp_message.specs.Numbers.{Applies}
+use Rattle.key_book.specs.Book.{Book, Sized, Sound, rowOf, keyOf}
+use Rattle.key_book.specs.Laws.{NoRow}
+use Rattle.delayed_auth.specs.Check.{checkOf, receivedAfter, verdictNumber}
+use Rattle.delayed_auth.specs.Key.{keyedOf, keyNumber, keyBytes, keyOffset}
+use Rattle.delayed_auth.specs.Seal.{counterMost, sealOf, messageAfter, sentAfter, outcomeNumber}
+use Rattle.book_card.specs.Card.{Row, InOrder, cardOf}
+use Rattle.book_card.specs.Numbers.{Bytes as CardBytes}
+use Rattle.book_card.specs.Reading.{readOf, readBook, readNumber}
+use Rattle.book_card.specs.Writing.{rowsOf, writeOf, written, writeNumber}
+
+-- On one input: the lowest number that applies is given, and none is given otherwise.
+pub record Lowest (AppliesHere : Refusal → Type 0) (number : ℕ) : Type 0 where
+  pub refused : (r : Refusal) → (number ≡ numberOf r) ↔ (AppliesHere r × ((q : Refusal) → numberOf q < numberOf r → AppliesHere q → ⊥))
+  pub none-applies : (number ≡ done) ↔ ((r : Refusal) → AppliesHere r → ⊥)
+
+-- ---- when a number applies
+
+-- a check: the message says counter, id and MAC, and the id has row k
+pub record Found (b : Book) (m : List ℕ) (counter k : ℕ) (mac : List ℕ) : Type 0 where
+  pub id : ℕ
+  pub form : saidOf m ≡ says counter id mac
+  pub secret : rowOf b id ≡ some k
+
+-- 1 to 10: the book is not sound; 2 to 9 as the message has it; the named secret id has no row
+pub data KeyApplies (b : Book) (m : List ℕ) : Refusal → Type 0 where
+  not-sound : (Sound b → ⊥) → KeyApplies b m UnsoundBook
+  by-form : {r : Refusal} → Applies r m → KeyApplies b m r
+  no-row : (id : ℕ) → named m ≡ some id → NoRow b id → KeyApplies b m UnknownSecret
+
+-- 1 to 12: those; the counter is not above the row's received one; the MAC differs
+pub data CheckApplies (b : Book) (m : List ℕ) : Refusal → Type 0 where
+  by-key : {r : Refusal} → KeyApplies b m r → CheckApplies b m r
+  not-above : (counter k : ℕ) (mac : List ℕ) → Found b m counter k mac → counter ≤ getD (b .received) k 0 → CheckApplies b m Replay
+  differs : (counter k : ℕ) (mac : List ℕ) → Found b m counter k mac → mac ≢ hmac (keyOf b k) (imageOf m) → CheckApplies b m WrongMac
+
+-- 1 to 9, then 10 for the given id, then 13: its row has sent the largest counter
+pub data SealApplies (b : Book) (id : ℕ) (m : List ℕ) : Refusal → Type 0 where
+  not-sound : (Sound b → ⊥) → SealApplies b id m UnsoundBook
+  by-form : {r : Refusal} → Applies r m → SealApplies b id m r
+  no-row : NoRow b id → SealApplies b id m UnknownSecret
+  spent : (k : ℕ) → rowOf b id ≡ some k → getD (b .sent) k 0 ≡ counterMost → SealApplies b id m CounterSpent
+
+-- 14: a digest's total would pass its limit
+pub data DigestApplies (total : ℕ) : Refusal → Type 0 where
+  passes-limit : digestMost < total → DigestApplies total TooLong
+
+-- 14: the key is longer than a block, or the inner digest, which counts the key's block, would pass its limit
+pub data HmacApplies (key text : List ℕ) : Refusal → Type 0 where
+  long-key : keyMost < length key → HmacApplies key text TooLong
+  long-text : digestMost < blockSize + length text → HmacApplies key text TooLong
+
+-- reading a card: the lent sizes disagree or there is room for too many; the bytes are the card of no rows in order; there are more rows than room
+pub data ReadApplies (b : Book) (card : List ℕ) : Refusal → Type 0 where
+  sizes-disagree : (Sized b → ⊥) → ReadApplies b card UnsoundBook
+  malformed : ((rows : List Row) → InOrder rows → card ≡ cardOf rows → ⊥) → ReadApplies b card MalformedCard
+  more-rows : (rows : List Row) → InOrder rows → card ≡ cardOf rows → length (b .ids) < length rows → ReadApplies b card NoRoomForRows
+
+-- writing a card: the book is not sound; the room is below the card's size
+pub data WriteApplies (b : Book) (room : List ℕ) : Refusal → Type 0 where
+  not-sound : (Sound b → ⊥) → WriteApplies b room UnsoundBook
+  small-room : length room < length (cardOf (rowsOf b)) → WriteApplies b room NoRoomForCard
+
+-- ---- demand 1: for every entry the number, and what a refusal leaves
+
+pub record Demand1 : Type 0 where
+  pub check : (b : Book) (m : List ℕ) → Bytes m → Lowest (CheckApplies b m) (verdictNumber (checkOf b m))
+  pub check-keeps : (b : Book) (m : List ℕ) → verdictNumber (checkOf b m) ≢ done → receivedAfter (checkOf b m) (b .received) ≡ b .received
+  -- both key entries: the number, and the empty part at the store's start
+  pub key : (b : Book) (m : List ℕ) → Bytes m → Lowest (KeyApplies b m) (keyNumber (keyedOf b m))
+  pub key-empty : (b : Book) (m : List ℕ) → keyNumber (keyedOf b m) ≢ done → (keyBytes b (keyedOf b m) ≡ []) × (keyOffset (keyedOf b m) ≡ 0)
+  pub seal : (b : Book) (id : ℕ) (m : List ℕ) → Bytes m → Lowest (SealApplies b id m) (outcomeNumber (sealOf b id m))
+  pub seal-keeps : (b : Book) (id : ℕ) (m : List ℕ) → outcomeNumber (sealOf b id m) ≢ done → (messageAfter (sealOf b id m) m ≡ m) × (sentAfter (sealOf b id m) (b .sent) ≡ b .sent)
+  pub feed : (d : Digest) (piece : List ℕ) → Lowest (DigestApplies (d .total + length piece)) (feedOf d piece .number)
+  pub feed-keeps : (d : Digest) (piece : List ℕ) → feedOf d piece .number ≢ done → feedOf d piece .state ≡ d
+  pub finish : (d : Digest) → Lowest (DigestApplies (d .total)) (finishOf d .number)
+  pub finish-zeros : (d : Digest) → finishOf d .number ≢ done → finishOf d .digest ≡ noDigest
+  pub digest : (message : List ℕ) → Lowest (DigestApplies (length message)) (md5Of message .number)
+  pub digest-zeros : (message : List ℕ) → md5Of message .number ≢ done → md5Of message .digest ≡ noDigest
+  pub hmac-mac : (key text : List ℕ) → Lowest (HmacApplies key text) (hmacOf key text .number)
+  pub hmac-zeros : (key text : List ℕ) → hmacOf key text .number ≢ done → hmacOf key text .mac ≡ noDigest
+  pub card-read : (b : Book) (card : List ℕ) → CardBytes card → Lowest (ReadApplies b card) (readNumber (readOf b card))
+  pub card-read-keeps : (b : Book) (card : List ℕ) → readNumber (readOf b card) ≢ done → readBook b card ≡ b
+  pub card-write : (b : Book) (room : List ℕ) → Lowest (WriteApplies b room) (writeNumber (writeOf b (length room)))
+  pub card-write-keeps : (b : Book) (room : List ℕ) → writeNumber (writeOf b (length room)) ≢ done → written b room ≡ room
