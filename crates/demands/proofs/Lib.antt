@@ -10,3 +10,4 @@ pub mod Woven
 pub mod LastCounter
 pub mod Lowest
 pub mod Demand1
+pub mod Bench

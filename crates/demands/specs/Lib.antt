@@ -6,3 +6,4 @@ pub mod Example3
 pub mod Woven
 pub mod LastCounter
 pub mod Demand1
+pub mod Bench
