@@ -3,7 +3,7 @@
 -- Where the channel's steps keep their order, a step that is not the channel's leaves it alone in either run,
 -- and a step of the channel does the same to it in both, the channel holds the same at each of its steps and at the end.
 -- Nothing is asked of what a step does: it may set the channel to anything.
-use mathlib.Core.Path.{_≡_, refl, sym, ap, _∙_}
+use mathlib.Core.Path.{_≡_, sym, ap, _∙_}
 use mathlib.Core.Logic.{_≢_, _⊎_, inl, inr}
 use Prim.Native.Nat.{ℕ, zero, suc, _≤_, _<_}
 use native.Mathlib.Decide.{ℕ-discrete, decLe}

@@ -3,12 +3,11 @@
 -- is the MAC of the sealed message's own image.
 use mathlib.Core.Path.{_≡_, refl, sym, ap, _∙_}
 use mathlib.Core.List.{List, _++_}
-use mathlib.Core.Option.{some}
 use Prim.Native.Nat.{ℕ, _+_, _^_, _<_}
 use native.Mathlib.Omega.{arith}
-use lib.ListN.{length, getD, length-append}
+use lib.ListN.{length}
 use Rattle.hmac_md5.specs.Hmac.{hmac}
-use Rattle.dhcp_message.specs.Layout.{macSize, sealSize}
+use Rattle.dhcp_message.specs.Layout.{macSize}
 use Rattle.dhcp_message.specs.Bytes.{zeros}
 use Rattle.dhcp_message.specs.Said.{says, saidOf, formOf}
 use Rattle.dhcp_message.specs.Image.{imageOf}
@@ -16,10 +15,9 @@ use Rattle.dhcp_message.specs.Seal.{fields, sealedWith}
 use Rattle.dhcp_message.specs.declared.Auth.{Auth}
 use Rattle.dhcp_message.specs.declared.Form.the-variants.{Full}
 use Rattle.dhcp_message.proofs.Seals.{seal-laws}
-use Rattle.key_book.specs.Book.{Book, Lent, Sound, rowOf, keyOf}
-use Rattle.delayed_auth.specs.Check.{checkOf, receivedAfter}
-use Rattle.delayed_auth.specs.Seal.{counterMost, sealed, sealedMessage, sealOf, sentAfter}
-use Rattle.demands.specs.Accepts.{Accepts, Seals}
+use Rattle.key_book.specs.Book.{Book, Lent, keyOf}
+use Rattle.delayed_auth.specs.Seal.{sealedMessage}
+use Rattle.demands.specs.Accepts.{Seals}
 use Rattle.demands.specs.Demand2.{Demand2}
 use Rattle.demands.proofs.Stages.{hmac-size, accepted-accepts, accepts-accepted, SealedBy, sealed-by, by-sealed}
 

@@ -3,10 +3,10 @@ use mathlib.Core.Path.{_≡_, refl, sym, ap, _∙_}
 use mathlib.Core.Bool.{Bool, true, false}
 use mathlib.Core.List.{List, _++_}
 use mathlib.Core.Option.{Option, none, some}
-use Prim.Native.Nat.{ℕ, _+_, _≤_, _<_}
+use Prim.Native.Nat.{ℕ, _+_, _<_}
 use native.Mathlib.Omega.{arith}
 use lib.Dec.{eqb}
-use lib.ListN.{length, getD, take, length-take, length-append}
+use lib.ListN.{length, getD, take, length-take}
 use lib.Seq.{getD-take, ext-getD}
 use Rattle.hmac_md5.specs.Hmac.{hmac}
 use Rattle.dhcp_message.specs.Layout.{macSize, sealSize}
@@ -22,7 +22,7 @@ use Rattle.key_book.specs.Book.{Book, Sound, sound, rowOf, keyOf}
 use Rattle.key_book.proofs.Says.{sound-says, sound-depends, row-depends, row-says, key-depends}
 use Rattle.delayed_auth.specs.Check.{judgedRow, judgedSaid, judgedSound, checkOf}
 use Rattle.delayed_auth.specs.Key.{keyedRow, keyedSaid, keyedSound, keyedOf, keyBytes}
-use Rattle.delayed_auth.specs.Seal.{counterMost, Outcome, sealedMessage, sealedCounter, sealedRow, sealedForm, sealedSound, sealOf}
+use Rattle.delayed_auth.specs.Seal.{counterMost, sealedMessage, sealedCounter, sealedRow, sealedForm, sealedSound, sealOf}
 use Rattle.demands.specs.Dependence.{SameSecrets, Names, SameForCheck, SameForSeal, SameInUse, Dependence}
 use Rattle.demands.proofs.Stages.{hmac-size}
 
@@ -37,7 +37,9 @@ module _ (a b : Book) (m : List ℕ) where
       row s c id mac e none f = refl
       row s c id mac e (some k) f =
           let n : Names a m k = record { is-sound = s; id = id; name = e; row = f } in
-          rw (w .key k n, w .received k n)
+          let key : keyOf a k ≡ keyOf b k = w .key k n in
+          let received : getD (a .received) k 0 ≡ getD (b .received) k 0 = w .received k n in
+          rw (key, received)
 
       said : Sound a → (x : Said) → saidOf m ≡ x → judgedSaid a m x ≡ judgedSaid b m x
       said s (refused r) e = refl

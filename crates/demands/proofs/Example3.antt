@@ -1,4 +1,4 @@
--- The worked second run, computed.
+-- The worked second run, computed: the definitions are unfolded down to MD5 for each MAC, and the rest of `Rearranged` goes by cases of the places.
 use mathlib.Core.Path.{_≡_, refl, sym, ap, _∙_}
 use mathlib.Core.Logic.{_≢_}
 use mathlib.Core.Option.{Option, none, some, Option·none-ne-some, Option·some-injective}
@@ -12,11 +12,11 @@ use Rattle.md5.specs.Block.{stepWith, stepAt, steps, round, compress, wordAt, l
 use Rattle.md5.specs.Message.{md5, padded, padding, output}
 use Rattle.hmac_md5.specs.Hmac.{masked, hmac}
 use Rattle.dhcp_message.specs.Bytes.{written}
-use Rattle.dhcp_message.specs.Options.{Token, opt, encode, WellFormed, Reads, decodeAt}
+use Rattle.dhcp_message.specs.Options.{Token, opt, encode, Reads, decodeAt}
 use Rattle.dhcp_message.specs.Message.{checkedTokens, checkedOf, Passes27}
 use Rattle.dhcp_message.specs.Said.{saidBy, saidOf, named, formOf}
 use Rattle.dhcp_message.specs.Image.{headWith, imageOf}
-use Rattle.dhcp_message.specs.Relay.{RelayChange, kept, added, Permitted, Relayed, unchanged, changed}
+use Rattle.dhcp_message.specs.Relay.{RelayChange, kept, added, Permitted, unchanged, changed}
 use Rattle.key_book.specs.Book.{Book, Sound, sound, sized, ascending, keySizes, allBelow, placeFrom, rowIn, keyFits, keyIn}
 use Rattle.key_book.proofs.Says.{sound-says}
 use Rattle.delayed_auth.specs.declared.Verdict.the-variants.{Accepted, Refused}
@@ -24,7 +24,7 @@ use Rattle.delayed_auth.specs.Check.{sameBytes, judgedRow, judgedSaid, judgedSo
 use Rattle.delayed_auth.specs.Seal.{sealed, sealedMessage, sealedRow, sealedForm, sealedSound, sealOf}
 use Rattle.delayed_auth.specs.declared.Sealing.the-variants.{Sealed}
 use Rattle.demands.specs.Accepts.{Accepts}
-use Rattle.demands.specs.Demand3.{Step, check, seal, checked, wrote, answers, bookAfter, ending, before, Carried, same, relayed, OneSecret, checks, seals, Rearranged, SameRun}
+use Rattle.demands.specs.Demand3.{Step, check, seal, checked, wrote, answers, bookAfter, ending, before, Carried, same, relayed, OneSecret, checks, seals, Rearranged}
 use Rattle.demands.specs.Example3.{book, auth7, auth8, ended, relayInfo, sentMessage, relayedMessage, toSeal, sealedBytes, forged, first, second, place, Example3}
 use Rattle.demands.proofs.Stages.{never}
 use Rattle.demands.proofs.Demand2.{demand-2}
@@ -53,7 +53,7 @@ unfolding counters hmac masked md5 padded padding blocks compress round steps st
 step-2 = refl
 
 step-3 : checkOf (counters (11 ∷ 20 ∷ []) (4 ∷ 3 ∷ [])) (sentMessage auth7) ≡ Refused Replay
-unfolding counters hmac masked md5 padded padding blocks compress round steps stepAt stepWith rotl auxiliary wordNo additive rotations load loadTo wordAt output saidOf checkedOf checkedTokens decodeAt saidBy formOf imageOf written sound sized ascending keySizes allBelow placeFrom rowIn keyFits keyIn sameBytes judgedRow judgedSaid judgedSound checkOf
+unfolding counters saidOf checkedOf checkedTokens decodeAt saidBy formOf imageOf written sound sized ascending keySizes allBelow placeFrom rowIn keyFits keyIn sameBytes judgedRow judgedSaid judgedSound checkOf
 step-3 = refl
 
 first-answers : answers book first ≡ checked (Accepted 0 11) ∷ checked (Accepted 1 20) ∷ wrote (Sealed 4) sealedBytes ∷ checked (Refused Replay) ∷ []

@@ -2,9 +2,9 @@
 -- Where the second run has the first one's steps, those of each channel in their order, and besides them only steps that change nothing,
 -- each step of the first run has the same answer in the second, and each channel ends the same: for each channel by itself that is
 -- proofs/Channel.antt, and this file goes between its indices and the lists of steps.
-use mathlib.Core.Path.{_≡_, refl, sym, ap, _∙_}
+use mathlib.Core.Path.{_≡_, refl, sym, ap}
 use mathlib.Core.Logic.{_≢_, inl, inr}
-use mathlib.Core.Option.{Option, none, some, discrete, Option·none-ne-some}
+use mathlib.Core.Option.{Option, none, some, discrete}
 use mathlib.Core.List.{List, [], _∷_}
 use mathlib.Core.HLevel.{Discrete}
 use Prim.Native.Nat.{ℕ, zero, suc, _≤_, _<_}
@@ -13,7 +13,7 @@ use native.Mathlib.Decide.{ℕ-discrete, decLe}
 use native.Mathlib.Omega.{arith}
 use lib.ListN.{length, getElem?}
 use Rattle.key_book.specs.Book.{Book}
-use Rattle.demands.specs.Demand3.{Step, Answer, answerOf, bookAfter, answers, ending, before}
+use Rattle.demands.specs.Demand3.{Step, answerOf, bookAfter, answers, ending, before}
 use Rattle.demands.proofs.Channel
 use Rattle.demands.proofs.Channel.{search-below}
 

@@ -1,9 +1,9 @@
--- `checkOf` and `sealOf` by their stages: what an acceptance and a sealing say of each stage, and back. The only file that unfolds them.
+-- `checkOf` and `sealOf` by their stages: what an acceptance and a sealing say of each stage, and back. Demands 2 and 3 go by these laws.
 -- Each stage takes what it looks at as its last argument, so a law goes by cases of that argument with the equation that it is what was looked at.
 use mathlib.Core.Path.{_≡_, refl, sym, ap, _∙_}
 use mathlib.Core.Logic.{_≢_}
 use mathlib.Core.Bool.{Bool, true, false, _&&_}
-use mathlib.Core.List.{List, [], _∷_, _++_}
+use mathlib.Core.List.{List, [], _∷_}
 use mathlib.Core.Option.{Option, none, some}
 use Prim.Native.Nat.{ℕ, _+_, _≤_, _<_}
 use native.Mathlib.Omega.{arith}
@@ -21,10 +21,9 @@ use Rattle.dhcp_message.specs.declared.Form.{Form}
 use Rattle.dhcp_message.specs.declared.Form.the-variants.{Refused as FormRefused, Full}
 use Rattle.key_book.specs.Book.{Book, Sound, sound, rowOf, keyOf}
 use Rattle.key_book.proofs.Says.{sound-says}
-use Rattle.delayed_auth.specs.declared.Verdict.{Verdict}
 use Rattle.delayed_auth.specs.declared.Verdict.the-variants.{Accepted, Refused}
 use Rattle.delayed_auth.specs.Check.{sameBytes, judgedBy, judgedRow, judgedSaid, judgedSound, checkOf}
-use Rattle.delayed_auth.specs.Seal.{counterMost, Outcome, sealed, unsealed, sealedMessage, sealedCounter, sealedRow, sealedForm, sealedSound, sealOf}
+use Rattle.delayed_auth.specs.Seal.{counterMost, sealed, sealedMessage, sealedCounter, sealedRow, sealedForm, sealedSound, sealOf}
 use Rattle.demands.specs.Accepts.{Accepts}
 
 pub never : {X : Type 0} → _≡_ {A = ℕ} 0 1 → X

@@ -4,9 +4,9 @@ use mathlib.Core.Path.{_≡_, refl, sym, ap, _∙_}
 use mathlib.Core.List.{List}
 use mathlib.Core.Option.{some}
 use Prim.Native.Nat.{ℕ, _≤_, _<_}
-use lib.ListN.{length, getD, length-set}
+use lib.ListN.{length, getD}
 use Rattle.refusal.specs.declared.Refusal.the-variants.{Replay}
-use Rattle.dhcp_message.specs.Said.{idOf, saidOf, named}
+use Rattle.dhcp_message.specs.Said.{idOf, named}
 use Rattle.dhcp_message.specs.Relay.{Relayed}
 use Rattle.dhcp_message.proofs.Relays.{relay-keeps}
 use Rattle.key_book.specs.Book.{Book, Sound, rowOf, keyOf}
@@ -15,9 +15,9 @@ use Rattle.key_book.proofs.Says.{sound-says, sound-depends, row-says, rows-with
 use Rattle.delayed_auth.specs.declared.Verdict.{Verdict}
 use Rattle.delayed_auth.specs.declared.Verdict.the-variants.{Accepted, Refused}
 use Rattle.delayed_auth.specs.Check.{checkOf, receivedAfter}
-use Rattle.delayed_auth.specs.Seal.{Outcome, sealed, unsealed, sealOf, sentAfter}
+use Rattle.delayed_auth.specs.Seal.{sealed, sealOf}
 use Rattle.demands.specs.Accepts.{Accepts}
-use Rattle.demands.specs.Dependence.{SameSecrets, Names}
+use Rattle.demands.specs.Dependence.{SameSecrets}
 use Rattle.demands.proofs.Stages.{accepted-accepts, replay-refused, check-same, sealed-by}
 use Rattle.demands.proofs.Demand2.{demand-2}
 use Rattle.demands.proofs.Dependence.{check-depends, seal-depends}

@@ -2,16 +2,15 @@
 -- before it; putting it back moves the places behind it up by one (`up`), which keeps their order and leaves its own place free.
 use mathlib.Core.Path.{_≡_, refl, sym, ap, _∙_}
 use mathlib.Core.Logic.{_≢_}
-use mathlib.Core.Option.{Option, none, some, Option·none-ne-some, Option·some-injective}
+use mathlib.Core.Option.{some, Option·none-ne-some, Option·some-injective}
 use mathlib.Core.List.{List, [], _∷_, _++_}
 use Prim.Native.Nat.{ℕ, zero, suc, _≤_, _<_}
 use native.Mathlib.Decide.{ℕ-discrete, decLe, decLt}
 use native.Mathlib.Omega.{arith}
 use lib.ListN.{length, getElem?, length-map}
-use Rattle.key_book.specs.Book.{Book}
 use Rattle.demands.specs.Accepts.{Accepts}
-use Rattle.demands.specs.Demand3.{Step, check, before, Carried, same, relayed, OneSecret, checks, seals, Rearranged}
-use Rattle.demands.specs.Woven.{Item, carries, puts-in, stepIn, runOf, Woven, rest, next, NoneAccepted, WovenIsRearranged}
+use Rattle.demands.specs.Demand3.{Step, check, before, Carried, same, relayed, OneSecret, checks}
+use Rattle.demands.specs.Woven.{Item, carries, puts-in, stepIn, runOf, Woven, rest, next, WovenIsRearranged}
 use Rattle.demands.proofs.Runs.{some-at}
 use Rattle.demands.proofs.Steps.{name-relayed}
 

@@ -4,7 +4,6 @@
 use Prim.Native.Nat.{ℕ, zero, suc}
 use mathlib.Core.Path.{_≡_}
 use mathlib.Core.List.{List, [], _∷_, _++_}
-use lib.ListN.{length}
 use Rattle.refusal.specs.declared.Refusal.the-variants.{Replay}
 use Rattle.dhcp_message.specs.Layout.{cookieAt, magicCookie}
 use Rattle.dhcp_message.specs.Bytes.{zeros}
@@ -19,7 +18,7 @@ use Rattle.demands.specs.Demand3.{Step, check, seal, checked, wrote, ans
 abbrev pub book : Book
 book = bookOf (7 ∷ 8 ∷ []) (4 ∷ 4 ∷ []) (1 ∷ 2 ∷ 3 ∷ 4 ∷ (zeros 60 ++ (5 ∷ 6 ∷ 7 ∷ 8 ∷ zeros 60))) (10 ∷ 10 ∷ []) (3 ∷ 3 ∷ []) 2
 
--- an option 90 with End behind it
+-- option 90 of a message from each secret
 abbrev pub auth7 : List ℕ
 auth7 = fullAuth 1 11 7 (238 ∷ 152 ∷ 244 ∷ 219 ∷ 238 ∷ 91 ∷ 235 ∷ 63 ∷ 12 ∷ 64 ∷ 6 ∷ 168 ∷ 105 ∷ 48 ∷ 38 ∷ 105 ∷ [])
 
