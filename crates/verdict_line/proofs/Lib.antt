@@ -1,0 +1,5 @@
+mod Digits
+mod Places
+mod Lines
+pub mod Says
+pub mod Computed
