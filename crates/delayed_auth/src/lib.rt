@@ -138,7 +138,7 @@ pub fn check(
 }
 
 // 1 to 10: the row of the secret that a message names.
-fn named_row(
+pub fn named_row(
     ids: &[u32],
     lengths: &[u8],
     store: &[u8],

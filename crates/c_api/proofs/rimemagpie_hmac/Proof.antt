@@ -1,0 +1,16 @@
+-- `c_api::rimemagpie_hmac` meets its contract: the two parts of what `hmac` gives.
+use mathlib.Core.Path.{ap}
+use Rattle.hmac_md5.specs.declared.Mac.{Mac}
+use borrow.Author.Needs.{needs}
+use Rattle.c_api.proofs.rimemagpie_hmac.Statement.{statement}
+use Rattle.c_api.proofs.rimemagpie_hmac.Tie as tie
+use Rattle.hmac_md5.proofs.hmac.Reads as hmac-reads
+
+hmac-requires : tie.Need-hmac-requires
+hmac-requires c κs = search needs
+
+returns : tie.Need-returns
+returns c = (ap (λ (m : Mac). m .number) (c .before .hmac .ensures), ap (λ (m : Mac). m .mac) (c .before .hmac .ensures))
+
+pub rimemagpie-hmac-spec : {M : Type 1} → statement M
+rimemagpie-hmac-spec = tie.close (tie.spec hmac-requires returns)

@@ -1,0 +1,182 @@
+// The library as C calls it (include/rimemagpie.h): every entry as an exported function, with the number of document 01 as its result.
+// Each takes its answer apart and adds nothing of its own. The book is lent as in delayed_auth; a further result goes to a lent place,
+// which a refusal leaves as it was.
+//
+// A slice is a pointer and a length to C. That these are right, and that what is lent doesn't overlap, is up to the caller.
+ghost use mathlib.Core.Path.{_≡_};
+ghost use lib.ListN.{length};
+ghost use Rattle.md5.specs.Entries.{md5Of};
+ghost use Rattle.hmac_md5.specs.Hmac.{hmacOf};
+ghost use Rattle.key_book.specs.Book.{bookOf};
+ghost use Rattle.delayed_auth.specs.Check.{checkOf, receivedAfter, verdictNumber};
+ghost use Rattle.delayed_auth.specs.Key.{keyedOf, keyNumber};
+ghost use Rattle.delayed_auth.specs.Seal.{sealOf, messageAfter, sentAfter, outcomeNumber};
+ghost use Rattle.book_card.specs.Reading.{readOf, readBook, rowsGiven};
+ghost use Rattle.book_card.specs.Writing.{writeOf, written};
+ghost use Rattle.c_api.specs.Places.{rowPlace, counterPlace, offsetPlace, sizePlace, sealedPlace, rowsPlace, cardPlace, readNumber, writeNumber};
+use book_card::ReadAnswer;
+use book_card::WriteAnswer;
+use delayed_auth::Keyed;
+use delayed_auth::Sealing;
+use delayed_auth::Verdict;
+
+// The digest of a message.
+#[no_mangle]
+pub extern "C" fn rimemagpie_digest(message: &[u8], digest: &mut [u8; 16]) -> u8
+    ensures number { λ r. ⌜ r ≡ md5Of (now (message .entry)) .number ⌝ }
+    ensures bytes { λ _. ⌜ now (digest .exit) ≡ md5Of (now (message .entry)) .digest ⌝ }
+{
+    let finished = md5::md5(message);
+    let bytes = finished.digest;
+    *digest = bytes;
+    finished.number
+}
+
+// The MAC of a message under a key.
+#[no_mangle]
+pub extern "C" fn rimemagpie_hmac(key: &[u8], message: &[u8], mac: &mut [u8; 16]) -> u8
+    ensures number { λ r. ⌜ r ≡ hmacOf (now (key .entry)) (now (message .entry)) .number ⌝ }
+    ensures bytes { λ _. ⌜ now (mac .exit) ≡ hmacOf (now (key .entry)) (now (message .entry)) .mac ⌝ }
+{
+    let answer = hmac_md5::hmac(key, message);
+    let bytes = answer.mac;
+    *mac = bytes;
+    answer.number
+}
+
+// Judges a message, and stores its counter as received where it is accepted.
+#[no_mangle]
+pub extern "C" fn rimemagpie_check(
+    ids: &[u32],
+    lengths: &[u8],
+    store: &[u8],
+    received: &mut [u64],
+    sent: &[u64],
+    rows: usize,
+    message: &[u8],
+    row: &mut u64,
+    counter: &mut u64,
+) -> u8
+    ensures number { λ r. ⌜ r ≡ verdictNumber (checkOf (bookOf (now (ids .entry)) (now (lengths .entry)) (now (store .entry)) (now (received .entry)) (now (sent .entry)) rows) (now (message .entry))) ⌝ }
+    ensures stored { λ _. ⌜ now (received .exit) ≡ receivedAfter (checkOf (bookOf (now (ids .entry)) (now (lengths .entry)) (now (store .entry)) (now (received .entry)) (now (sent .entry)) rows) (now (message .entry))) (now (received .entry)) ⌝ }
+    ensures row { λ _. ⌜ now (row .exit) ≡ rowPlace (checkOf (bookOf (now (ids .entry)) (now (lengths .entry)) (now (store .entry)) (now (received .entry)) (now (sent .entry)) rows) (now (message .entry))) (now (row .entry)) ⌝ }
+    ensures counter { λ _. ⌜ now (counter .exit) ≡ counterPlace (checkOf (bookOf (now (ids .entry)) (now (lengths .entry)) (now (store .entry)) (now (received .entry)) (now (sent .entry)) rows) (now (message .entry))) (now (counter .entry)) ⌝ }
+{
+    let verdict = delayed_auth::check(ids, lengths, store, received, sent, rows, message);
+    match verdict {
+        Verdict::Accepted(at, accepted) => {
+            *row = at as u64;
+            *counter = accepted;
+            0
+        }
+        Verdict::Refused(refusal) => refusal::number(refusal),
+    }
+}
+
+// Where the key of the secret that a message names stands in the key store, and how many bytes it has.
+#[no_mangle]
+pub extern "C" fn rimemagpie_key(
+    ids: &[u32],
+    lengths: &[u8],
+    store: &[u8],
+    received: &[u64],
+    sent: &[u64],
+    rows: usize,
+    message: &[u8],
+    offset: &mut u64,
+    size: &mut u64,
+) -> u8
+    ensures number { λ r. ⌜ r ≡ keyNumber (keyedOf (bookOf (now (ids .entry)) (now (lengths .entry)) (now (store .entry)) (now (received .entry)) (now (sent .entry)) rows) (now (message .entry))) ⌝ }
+    ensures offset { λ _. ⌜ now (offset .exit) ≡ offsetPlace (keyedOf (bookOf (now (ids .entry)) (now (lengths .entry)) (now (store .entry)) (now (received .entry)) (now (sent .entry)) rows) (now (message .entry))) (now (offset .entry)) ⌝ }
+    ensures size { λ _. ⌜ now (size .exit) ≡ sizePlace (bookOf (now (ids .entry)) (now (lengths .entry)) (now (store .entry)) (now (received .entry)) (now (sent .entry)) rows) (keyedOf (bookOf (now (ids .entry)) (now (lengths .entry)) (now (store .entry)) (now (received .entry)) (now (sent .entry)) rows) (now (message .entry))) (now (size .entry)) ⌝ }
+{
+    let keyed = delayed_auth::named_row(ids, lengths, store, received, sent, rows, message);
+    match keyed {
+        Keyed::Row(row) => {
+            let key = key_book::key_of(store, lengths, row);
+            *offset = (key_book::SLOT_SIZE * row) as u64;
+            *size = key.len() as u64;
+            0
+        }
+        Keyed::NoKey(refusal) => refusal::number(refusal),
+    }
+}
+
+// Seals a message under the given id with the next counter, and stores that counter as sent.
+#[no_mangle]
+pub extern "C" fn rimemagpie_seal(
+    ids: &[u32],
+    lengths: &[u8],
+    store: &[u8],
+    received: &[u64],
+    sent: &mut [u64],
+    rows: usize,
+    id: u32,
+    message: &mut [u8],
+    counter: &mut u64,
+) -> u8
+    ensures number { λ r. ⌜ r ≡ outcomeNumber (sealOf (bookOf (now (ids .entry)) (now (lengths .entry)) (now (store .entry)) (now (received .entry)) (now (sent .entry)) rows) id (now (message .entry))) ⌝ }
+    ensures sealed { λ _. ⌜ now (message .exit) ≡ messageAfter (sealOf (bookOf (now (ids .entry)) (now (lengths .entry)) (now (store .entry)) (now (received .entry)) (now (sent .entry)) rows) id (now (message .entry))) (now (message .entry)) ⌝ }
+    ensures stored { λ _. ⌜ now (sent .exit) ≡ sentAfter (sealOf (bookOf (now (ids .entry)) (now (lengths .entry)) (now (store .entry)) (now (received .entry)) (now (sent .entry)) rows) id (now (message .entry))) (now (sent .entry)) ⌝ }
+    ensures counter { λ _. ⌜ now (counter .exit) ≡ sealedPlace (sealOf (bookOf (now (ids .entry)) (now (lengths .entry)) (now (store .entry)) (now (received .entry)) (now (sent .entry)) rows) id (now (message .entry))) (now (counter .entry)) ⌝ }
+{
+    let sealing = delayed_auth::seal(ids, lengths, store, received, sent, rows, id, message);
+    match sealing {
+        Sealing::Sealed(written) => {
+            *counter = written;
+            0
+        }
+        Sealing::Unsealed(refusal) => refusal::number(refusal),
+    }
+}
+
+// Reads a card into a lent book. Further rows stay as they were.
+#[no_mangle]
+pub extern "C" fn rimemagpie_card_read(
+    card: &[u8],
+    ids: &mut [u32],
+    lengths: &mut [u8],
+    store: &mut [u8],
+    received: &mut [u64],
+    sent: &mut [u64],
+    rows: &mut u64,
+) -> u8
+    ensures number { λ r. ⌜ r ≡ readNumber (readOf (bookOf (now (ids .entry)) (now (lengths .entry)) (now (store .entry)) (now (received .entry)) (now (sent .entry)) 0) (now (card .entry))) ⌝ }
+    ensures book { λ _. ⌜ bookOf (now (ids .exit)) (now (lengths .exit)) (now (store .exit)) (now (received .exit)) (now (sent .exit)) (rowsGiven (readOf (bookOf (now (ids .entry)) (now (lengths .entry)) (now (store .entry)) (now (received .entry)) (now (sent .entry)) 0) (now (card .entry)))) ≡ readBook (bookOf (now (ids .entry)) (now (lengths .entry)) (now (store .entry)) (now (received .entry)) (now (sent .entry)) 0) (now (card .entry)) ⌝ }
+    ensures rows { λ _. ⌜ now (rows .exit) ≡ rowsPlace (readOf (bookOf (now (ids .entry)) (now (lengths .entry)) (now (store .entry)) (now (received .entry)) (now (sent .entry)) 0) (now (card .entry))) (now (rows .entry)) ⌝ }
+{
+    let answer = book_card::card_read(card, ids, lengths, store, received, sent);
+    match answer {
+        ReadAnswer::Rows(read) => {
+            *rows = read as u64;
+            0
+        }
+        ReadAnswer::Refused(refusal) => refusal::number(refusal),
+    }
+}
+
+// Writes the card of a book to the front of a lent room. Later bytes of the room stay as they were.
+#[no_mangle]
+pub extern "C" fn rimemagpie_card_write(
+    ids: &[u32],
+    lengths: &[u8],
+    store: &[u8],
+    received: &[u64],
+    sent: &[u64],
+    rows: usize,
+    card: &mut [u8],
+    size: &mut u64,
+) -> u8
+    ensures number { λ r. ⌜ r ≡ writeNumber (writeOf (bookOf (now (ids .entry)) (now (lengths .entry)) (now (store .entry)) (now (received .entry)) (now (sent .entry)) rows) (length (now (card .entry)))) ⌝ }
+    ensures room { λ _. ⌜ now (card .exit) ≡ written (bookOf (now (ids .entry)) (now (lengths .entry)) (now (store .entry)) (now (received .entry)) (now (sent .entry)) rows) (now (card .entry)) ⌝ }
+    ensures size { λ _. ⌜ now (size .exit) ≡ cardPlace (writeOf (bookOf (now (ids .entry)) (now (lengths .entry)) (now (store .entry)) (now (received .entry)) (now (sent .entry)) rows) (length (now (card .entry)))) (now (size .entry)) ⌝ }
+{
+    let answer = book_card::card_write(ids, lengths, store, received, sent, rows, card);
+    match answer {
+        WriteAnswer::Size(used) => {
+            *size = used as u64;
+            0
+        }
+        WriteAnswer::Refused(refusal) => refusal::number(refusal),
+    }
+}
