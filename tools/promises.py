@@ -42,6 +42,8 @@ THEOREMS = [
     ("book_card", "Trips", "write-depends", "WriteDepends"),
     ("book_card", "Computed", "example-1", "Example1"),
     ("book_card", "Computed", "example-2", "Example2"),
+    ("verdict_line", "Says", "decimal-says", "DecimalSays"),
+    ("verdict_line", "Says", "size-within", "SizeWithin"),
     ("demands", "Demand1", "demand-1", "Demand1"),
     ("demands", "Demand2", "demand-2", "Demand2"),
     ("demands", "Demand3", "demand-3", "Demand3"),

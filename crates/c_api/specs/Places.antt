@@ -1,8 +1,6 @@
--- The places of results that C lends: each holds the result after an answer, and after a refusal what it held before. And the numbers of the
--- answers about a card (document 01, 'Numbers given back').
+-- The places of results that C lends: each holds the result after an answer, and after a refusal what it held before.
 use Prim.Native.Nat.{ℕ, _*_}
 use lib.ListN.{length}
-use Rattle.refusal.specs.Number.{numberOf, done}
 use Rattle.key_book.specs.Limits.{slotSize}
 use Rattle.key_book.specs.Book.{Book, keyOf}
 use Rattle.delayed_auth.specs.declared.Verdict.{Verdict}
@@ -46,12 +44,3 @@ rowsPlace (Rows n) was = n
 abbrev pub cardPlace : WriteAnswer → ℕ → ℕ
 cardPlace (WriteRefused r) was = was
 cardPlace (Size n) was = n
-
--- the paper's number of each of the two
-abbrev pub readNumber : ReadAnswer → ℕ
-readNumber (ReadRefused r) = numberOf r
-readNumber (Rows n) = done
-
-abbrev pub writeNumber : WriteAnswer → ℕ
-writeNumber (WriteRefused r) = numberOf r
-writeNumber (Size n) = done

@@ -1,7 +1,8 @@
 -- `c_api::rimemagpie_card_read` meets its contract: number and place are read off the answer, which is `readOf`.
 use mathlib.Core.Path.{sym, ap, _∙_}
 use Rattle.book_card.specs.declared.ReadAnswer.{ReadAnswer}
-use Rattle.c_api.specs.Places.{rowsPlace, readNumber}
+use Rattle.book_card.specs.Reading.{readNumber}
+use Rattle.c_api.specs.Places.{rowsPlace}
 use borrow.Author.Needs.{needs}
 use Rattle.c_api.proofs.rimemagpie_card_read.Statement.{statement}
 use Rattle.c_api.proofs.rimemagpie_card_read.Tie as tie

@@ -1,7 +1,8 @@
 -- `c_api::rimemagpie_card_write` meets its contract: number and place are read off the answer, which is `writeOf`.
 use mathlib.Core.Path.{sym, ap, _∙_}
 use Rattle.book_card.specs.declared.WriteAnswer.{WriteAnswer}
-use Rattle.c_api.specs.Places.{cardPlace, writeNumber}
+use Rattle.book_card.specs.Writing.{writeNumber}
+use Rattle.c_api.specs.Places.{cardPlace}
 use borrow.Author.Needs.{needs}
 use Rattle.c_api.proofs.rimemagpie_card_write.Statement.{statement}
 use Rattle.c_api.proofs.rimemagpie_card_write.Tie as tie
