@@ -13,6 +13,7 @@ ROOT = pathlib.Path(__file__).resolve().parent.parent
 
 # crate, proof file, theorem, its statement: the one place where the statement is proved.
 THEOREMS = [
+    ("refusal", "Names", "numbers-tell", "NumbersTell"),
     ("md5", "Promises", "any-cutting", "AnyCutting"),
     ("md5", "Promises", "pieces-taken", "PiecesTaken"),
     ("md5", "Promises", "tail-zero", "TailZero"),

@@ -12,6 +12,7 @@ use lib.Dec.{leb, ltb, eqb}
 use lib.ListN.{length, getD, take, drop}
 use Rattle.refusal.specs.Number.{numberOf, done}
 use Rattle.refusal.specs.declared.Refusal.{Refusal}
+use Rattle.refusal.proofs.Names.{numbers-tell}
 use Rattle.refusal.specs.declared.Refusal.the-variants.{UnsoundBook, UnknownSecret, Replay, WrongMac, CounterSpent, TooLong, MalformedCard, NoRoomForCard, NoRoomForRows}
 use Rattle.md5.specs.declared.Digest.{Digest}
 use Rattle.md5.specs.declared.Fed.{Fed}
@@ -53,7 +54,7 @@ use Rattle.book_card.specs.Reading.{readAs, readOf, readBy, readBook, readNumbe
 use Rattle.book_card.specs.Writing.{rowsOf, writeOf, writtenBy, written, writeNumber}
 use Rattle.book_card.proofs.Says.{card-says, malformed-says}
 use Rattle.demands.specs.Demand1.{Lowest, Found, KeyApplies, not-sound, by-form, no-row, CheckApplies, by-key, not-above, differs, SealApplies, spent, DigestApplies, passes-limit, HmacApplies, long-key, long-text, ReadApplies, sizes-disagree, malformed, more-rows, WriteApplies, small-room, Demand1}
-use Rattle.demands.proofs.Lowest.{form-numbers, positive, numberBy, NothingBelow, Right, lowest}
+use Rattle.demands.proofs.Lowest.{form-numbers, numberBy, NothingBelow, Right, lowest}
 use Rattle.demands.proofs.Stages.{same-equal, equal-same}
 
 clash : {X : Type 0} → _≡_ {A = Bool} true false → X
@@ -61,7 +62,7 @@ clash e = absurd (let z : _≡_ {A = ℕ} 0 1 = cc in omega arith)
 
 -- nothing has a number below 1
 nothing-first : (A : Refusal → Type 0) → NothingBelow A 1
-nothing-first A q l a = omega (arith, positive q)
+nothing-first A q l a = omega (arith, numbers-tell .not-done q)
 
 -- ---- what lies below a number, by the table
 

@@ -11,6 +11,7 @@ use lib.Dec.{ltb, eqb}
 use borrow.Author.Tests.{ltb-true, ltb-false, eqb-true, eqb-false}
 use Rattle.refusal.specs.Number.{numberOf}
 use Rattle.refusal.specs.declared.Refusal.{Refusal}
+use Rattle.refusal.proofs.Names.{nameOf, named-back, numbers-tell}
 use Rattle.refusal.specs.declared.Refusal.the-variants.{UnsoundBook, MessageSize, WrongCookie, BrokenOptions, NoAuthentication, RepeatedAuthentication, RelayInformation, OtherAuthentication, RequestForm, UnknownSecret, Replay, WrongMac, CounterSpent, TooLong, MalformedCard, NoRoomForCard, NoRoomForRows}
 use Rattle.dhcp_message.specs.Layout.{magicCookie, delayed}
 use Rattle.dhcp_message.specs.Bytes.{Bytes, starts}
@@ -28,35 +29,9 @@ use Rattle.dhcp_message.proofs.Passing.{Passing, passing, split-90, opt
 
 -- ---- the order of the refusals
 
--- the refusals by number, from 0 on, which is none
-abbrev nameOf : ℕ → Refusal
-nameOf n = getD (UnsoundBook ∷ UnsoundBook ∷ MessageSize ∷ WrongCookie ∷ BrokenOptions ∷ NoAuthentication ∷ RepeatedAuthentication ∷ RelayInformation ∷ OtherAuthentication ∷ RequestForm ∷ UnknownSecret ∷ Replay ∷ WrongMac ∷ CounterSpent ∷ TooLong ∷ MalformedCard ∷ NoRoomForCard ∷ NoRoomForRows ∷ []) n UnsoundBook
-
-back : (r : Refusal) → nameOf (numberOf r) ≡ r
-back UnsoundBook = refl
-back MessageSize = refl
-back WrongCookie = refl
-back BrokenOptions = refl
-back NoAuthentication = refl
-back RepeatedAuthentication = refl
-back RelayInformation = refl
-back OtherAuthentication = refl
-back RequestForm = refl
-back UnknownSecret = refl
-back Replay = refl
-back WrongMac = refl
-back CounterSpent = refl
-back TooLong = refl
-back MalformedCard = refl
-back NoRoomForCard = refl
-back NoRoomForRows = refl
-
-same-number : (r q : Refusal) → numberOf r ≡ numberOf q → r ≡ q
-same-number r q e = sym (back r) ∙ ap nameOf e ∙ back q
-
 -- none is below 2, and one that doesn't apply makes it one more
 none-below-2 : (m : List ℕ) → NoneBelow 2 m
-none-below-2 m k h a = subst (λ (k : Refusal). Applies k m) (sym (back k) ∙ small (numberOf k) h) a
+none-below-2 m k h a = subst (λ (k : Refusal). Applies k m) (sym (named-back k) ∙ small (numberOf k) h) a
   where
     small : (n : ℕ) → n < 2 → nameOf n ≡ UnsoundBook
     small zero h = refl
@@ -70,7 +45,7 @@ none-more m r h n k l a = by (ltb (numberOf k) (numberOf r)) refl
     by true e = h k (ltb-true (numberOf k) (numberOf r) e) a
     by false e =
         let g = ltb-false (numberOf k) (numberOf r) e in
-        n (subst (λ (k : Refusal). Applies k m) (same-number k r (omega arith)) a)
+        n (subst (λ (k : Refusal). Applies k m) (numbers-tell .apart k r (omega arith)) a)
 
 none-at-all : (m : List ℕ) → NoneBelow 10 m → (k : Refusal) → Applies k m → ⊥
 none-at-all m h UnsoundBook a = a
@@ -243,7 +218,7 @@ given-form m b = by (checkedOf m) refl (given m b)
 
 -- of two numbers that are each the lowest, one is not below the other
 lowest : (m : List ℕ) (r : Refusal) (f : Form) → GivenForm m f → Applies r m → NoneBelow (numberOf r) m → f ≡ Refused r
-lowest m r (Refused q) g a n = ap Refused (same-number q r (by (ltb (numberOf q) (numberOf r)) (ltb (numberOf r) (numberOf q)) refl refl))
+lowest m r (Refused q) g a n = ap Refused (numbers-tell .apart q r (by (ltb (numberOf q) (numberOf r)) (ltb (numberOf r) (numberOf q)) refl refl))
   where
     by : (x y : Bool) → ltb (numberOf q) (numberOf r) ≡ x → ltb (numberOf r) (numberOf q) ≡ y → numberOf q ≡ numberOf r
     by true y hx hy = absurd (n q (ltb-true (numberOf q) (numberOf r) hx) (g .0))
