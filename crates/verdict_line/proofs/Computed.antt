@@ -1,10 +1,10 @@
 -- The lines of document 01's bench example 9, and `decimal` at its edges, computed.
 use mathlib.Core.Path.{_≡_, refl}
-use mathlib.Core.List.{List, [], _∷_}
+use mathlib.Core.List.{[], _∷_}
 use Rattle.refusal.specs.declared.Refusal.the-variants.{Replay}
 use Rattle.verdict_line.specs.Decimal.{decimal, digitsTo}
 use Rattle.verdict_line.specs.Line.{acceptedLine, refusedLine, lineOf}
-use Rattle.verdict_line.specs.declared.Line.the-variants.{Accepted, Refused, Unreadable}
+use Rattle.verdict_line.specs.declared.Line.the-variants.{Accepted, Refused}
 
 -- `accepted row 0 counter 11` and a newline
 accepted-11 : lineOf (Accepted 0 11) ≡ 97 ∷ 99 ∷ 99 ∷ 101 ∷ 112 ∷ 116 ∷ 101 ∷ 100 ∷ 32 ∷ 114 ∷ 111 ∷ 119 ∷ 32 ∷ 48 ∷ 32 ∷ 99 ∷ 111 ∷ 117 ∷ 110 ∷ 116 ∷ 101 ∷ 114 ∷ 32 ∷ 49 ∷ 49 ∷ 10 ∷ []

@@ -1,12 +1,11 @@
 -- Bytes placed in a room: what the loop of `put` keeps, and one piece placed after another.
 use mathlib.Core.Path.{_≡_, refl, sym, ap, ap₂, _∙_}
 use mathlib.Core.List.{List, [], _∷_, _++_, append-assoc}
-use Prim.Native.Nat.{ℕ, zero, suc, _+_, _/_, _%_, _≤_, _<_}
-use native.Mathlib.Nat.{add-zero, zero-add}
+use Prim.Native.Nat.{ℕ, _+_, _/_, _%_, _≤_, _<_}
 use native.Mathlib.Numerals.{add-one}
 use native.Mathlib.Omega.{arith}
 use lib.ListN.{length, take, drop, set, getD, length-append, length-set}
-use lib.Seq.{paste, paste-zero, paste-suc, length-paste, take-paste, drop-paste, take-length, drop-drop, set-split, append-snoc, take-all}
+use lib.Seq.{paste, paste-zero, paste-suc, length-paste, take-paste, drop-paste, take-length, drop-drop, set-split, append-snoc}
 use Rattle.verdict_line.specs.Decimal.{digit, decimal}
 use Rattle.verdict_line.specs.Line.{placed}
 use Rattle.verdict_line.proofs.Digits.{decimal-one, decimal-more, length-one, length-more}

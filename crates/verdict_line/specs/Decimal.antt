@@ -8,10 +8,11 @@ use lib.Dec.{ltb}
 abbrev pub digit : ℕ → ℕ
 digit d = 48 + d
 
--- at most `most` of the number's digits; there are never more digits than the number, so that `decimal` has all of them (`DecimalSays`, in Laws.antt)
+-- the number's last digits, at most `most` of them
 unfoldable pub digitsTo : ℕ → ℕ → List ℕ
 digitsTo zero n = []
 digitsTo (suc most) n = cond (ltb n 10) (digit n ∷ []) (digitsTo most (n / 10) ++ (digit (n % 10) ∷ []))
 
+-- all of its digits: one more than the number itself is always enough, and `DecimalSays` (Laws.antt) has the recursion without the count
 unfoldable pub decimal : ℕ → List ℕ
 decimal n = digitsTo (suc n) n

@@ -1,6 +1,6 @@
 -- What is proved of the line's definitions, each as a closed statement. The proofs are in proofs/Says.antt.
 use mathlib.Core.Path.{_≡_}
-use mathlib.Core.List.{List, [], _∷_, _++_}
+use mathlib.Core.List.{[], _∷_, _++_}
 use Prim.Native.Nat.{ℕ, _/_, _%_, _≤_, _<_}
 use Rattle.verdict_line.specs.Decimal.{digit, decimal}
 use Rattle.verdict_line.specs.Line.{sizeIn}

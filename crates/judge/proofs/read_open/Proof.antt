@@ -1,7 +1,6 @@
 -- `judge::read_open` is safe and ends, and answers a size below the room's. What has been read never passes the room, which keeps its length. The measure is the room that is left.
 use Prim.Native.Nat.{_≤_, _-_}
 use mathlib.Core.Path.{_≡_}
-use native.Mathlib.Omega.{arith}
 use borrow.Author.Needs.{needs}
 use lib.ListN.{length}
 use Rattle.judge.proofs.read_open.Statement.{statement}
