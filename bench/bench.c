@@ -1,5 +1,6 @@
 /*
- * Times the library beside OpenSSL: MD5, HMAC-MD5, a whole check and a whole seal, and how a check's time grows.
+ * Times the library beside OpenSSL: MD5, HMAC-MD5, a whole check and a whole seal. Then a check and a seal beside the
+ * HMAC-MD5 that they contain, and how a check's time grows.
  *
  * How it measures. What is compared stands in one table and takes turns: each round times one batch of each, in another
  * order every round, so that whatever slows the machine meets all of them alike. A time is the median over all rounds,
@@ -92,7 +93,7 @@ static void measure(const struct work *works, size_t count, double *medians)
     }
 }
 
-/* One line: ours beside OpenSSL's. */
+/* One line: the first beside the second. */
 static void compare(const char *what, size_t bytes, const struct work works[2])
 {
     double ns[2];
@@ -186,6 +187,7 @@ struct book {
 struct lot {
     struct book book;
     uint8_t messages[LOT][MESSAGE_MOST];
+    uint8_t images[LOT][MESSAGE_MOST]; /* what each message's MAC covers */
     size_t size;
     uint8_t out[16];
 };
@@ -232,6 +234,16 @@ static void their_lot(void *with)
         HMAC(EVP_md5(), key, KEY_SIZE, lot->messages[i], lot->size, lot->out, &length);
 }
 
+/* The library's own MAC of what each message's covers. */
+static void our_lot(void *with)
+{
+    struct lot *lot = with;
+
+    for (size_t i = 0; i < LOT; i++)
+        if (rimemagpie_hmac(key, KEY_SIZE, lot->images[i], lot->size, lot->out) != 0)
+            fail("a MAC was refused");
+}
+
 /* Sets the stored counter back, so that the next batch is accepted too. */
 static void forget_received(void *with)
 {
@@ -250,18 +262,34 @@ static void forget_sent(void *with)
 /* What fills a message up to its size: pads before option 90, which are read one by one, or bytes after End. */
 enum filling { PADS_FIRST, BYTES_AFTER_END };
 
+/* Where option 90 stands. */
+static size_t authentication_at(size_t size, enum filling filling)
+{
+    return filling == PADS_FIRST ? size - 34 : 243;
+}
+
 static void make_message(uint8_t *message, size_t size, enum filling filling)
 {
     static const uint8_t cookie_and_type[] = {99, 130, 83, 99, 53, 1, 5};
     static const uint8_t authentication[] = {90, 31, 1, 1, 0};
-    size_t at = 243;
+    size_t at = authentication_at(size, filling);
 
     memset(message, 0, size);
     memcpy(message + 236, cookie_and_type, sizeof cookie_and_type);
-    if (filling == PADS_FIRST)
-        at = size - 34;
     memcpy(message + at, authentication, sizeof authentication);
     message[at + 33] = 255;
+}
+
+/* What the MAC of a sealed message covers: its own place is zero. (So are hops and giaddr, and there's no option 82.) */
+static void make_image(uint8_t *image, const uint8_t *message, size_t size, enum filling filling)
+{
+    uint8_t *mac = image + authentication_at(size, filling) + 17;
+    uint8_t found[16];
+
+    memcpy(image, message, size);
+    memset(mac, 0, 16);
+    if (rimemagpie_hmac(key, KEY_SIZE, image, size, found) != 0 || memcmp(found, message + (mac - image), 16) != 0)
+        fail("a message's MAC is not that of its image");
 }
 
 static void make_lot(struct lot *lot, size_t rows, size_t size, enum filling filling)
@@ -277,6 +305,8 @@ static void make_lot(struct lot *lot, size_t rows, size_t size, enum filling fil
     for (size_t i = 0; i < LOT; i++)
         make_message(lot->messages[i], size, filling);
     our_seals(lot);
+    for (size_t i = 0; i < LOT; i++)
+        make_image(lot->images[i], lot->messages[i], size, filling);
 }
 
 static void compare_checks_and_seals(size_t size)
@@ -284,6 +314,17 @@ static void compare_checks_and_seals(size_t size)
     static struct lot lot;
     struct work checks[2] = {{forget_received, our_checks, &lot, LOT}, {NULL, their_lot, &lot, LOT}};
     struct work seals[2] = {{forget_sent, our_seals, &lot, LOT}, {NULL, their_lot, &lot, LOT}};
+
+    make_lot(&lot, 1, size, BYTES_AFTER_END);
+    compare("check", size, checks);
+    compare("seal", size, seals);
+}
+
+static void compare_with_own_mac(size_t size)
+{
+    static struct lot lot;
+    struct work checks[2] = {{forget_received, our_checks, &lot, LOT}, {NULL, our_lot, &lot, LOT}};
+    struct work seals[2] = {{forget_sent, our_seals, &lot, LOT}, {NULL, our_lot, &lot, LOT}};
 
     make_lot(&lot, 1, size, BYTES_AFTER_END);
     compare("check", size, checks);
@@ -345,6 +386,10 @@ int main(void)
     compare_checks_and_seals(1472);
     printf("MD5: OpenSSL's MD5_Init, MD5_Update, MD5_Final. HMAC-MD5, check and seal: OpenSSL's one-shot HMAC() of the\n"
            "same bytes, which judges and stores nothing. A ratio below 1 says that Rimemagpie is faster.\n");
+    printf("\nA whole check and a whole seal beside the HMAC-MD5 in them, Rimemagpie's own of the covered image:\n");
+    printf("%-10s %12s  %13s  %13s  %6s\n", "", "", "whole", "HMAC-MD5", "ratio");
+    compare_with_own_mac(300);
+    compare_with_own_mac(1472);
     growth_with_length("bytes after End", BYTES_AFTER_END);
     growth_with_length("pads before option 90", PADS_FIRST);
     growth_with_rows();

@@ -1,6 +1,6 @@
 -- What C reads off an answer: a seal's number and counter, which the library returns without the message and the row; and that the slot of a
 -- named row starts within the store.
-use mathlib.Core.Path.{_≡_, refl, sym, ap, _∙_}
+use mathlib.Core.Path.{_≡_, refl, ap}
 use mathlib.Core.Bool.{Bool, true, false, cond, _&&_}
 use mathlib.Core.List.{List}
 use Prim.Native.Nat.{ℕ, _+_, _*_, _≤_}

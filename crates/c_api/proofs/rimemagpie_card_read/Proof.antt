@@ -6,8 +6,6 @@ use Rattle.c_api.specs.Places.{rowsPlace}
 use borrow.Author.Needs.{needs}
 use Rattle.c_api.proofs.rimemagpie_card_read.Statement.{statement}
 use Rattle.c_api.proofs.rimemagpie_card_read.Tie as tie
-use Rattle.book_card.proofs.card_read.Reads as card-read-reads
-use Rattle.refusal.proofs.number.Reads as number-reads
 
 card-read-requires : tie.Need-card-read-requires
 card-read-requires c κs = search needs

@@ -6,8 +6,6 @@ use Rattle.c_api.specs.Places.{cardPlace}
 use borrow.Author.Needs.{needs}
 use Rattle.c_api.proofs.rimemagpie_card_write.Statement.{statement}
 use Rattle.c_api.proofs.rimemagpie_card_write.Tie as tie
-use Rattle.book_card.proofs.card_write.Reads as card-write-reads
-use Rattle.refusal.proofs.number.Reads as number-reads
 
 card-write-requires : tie.Need-card-write-requires
 card-write-requires c κs = search needs

@@ -6,8 +6,6 @@ use Rattle.c_api.specs.Places.{rowPlace, counterPlace}
 use borrow.Author.Needs.{needs}
 use Rattle.c_api.proofs.rimemagpie_check.Statement.{statement}
 use Rattle.c_api.proofs.rimemagpie_check.Tie as tie
-use Rattle.delayed_auth.proofs.check.Reads as check-reads
-use Rattle.refusal.proofs.number.Reads as number-reads
 
 check-requires : tie.Need-check-requires
 check-requires c κs = search needs

@@ -4,7 +4,6 @@ use Rattle.md5.specs.declared.Finished.{Finished}
 use borrow.Author.Needs.{needs}
 use Rattle.c_api.proofs.rimemagpie_digest.Statement.{statement}
 use Rattle.c_api.proofs.rimemagpie_digest.Tie as tie
-use Rattle.md5.proofs.md5.Reads as md5-reads
 
 md5-requires : tie.Need-md5-requires
 md5-requires c κs = search needs

@@ -4,7 +4,6 @@ use Rattle.hmac_md5.specs.declared.Mac.{Mac}
 use borrow.Author.Needs.{needs}
 use Rattle.c_api.proofs.rimemagpie_hmac.Statement.{statement}
 use Rattle.c_api.proofs.rimemagpie_hmac.Tie as tie
-use Rattle.hmac_md5.proofs.hmac.Reads as hmac-reads
 
 hmac-requires : tie.Need-hmac-requires
 hmac-requires c κs = search needs

@@ -1,6 +1,5 @@
 -- `c_api::rimemagpie_key` meets its contract: number and places are read off the answer, which is `keyedOf`; a named row's slot starts within the store.
 use mathlib.Core.Path.{sym, ap, _∙_}
-use native.Mathlib.Omega.{arith}
 use lib.ListN.{length}
 use Rattle.key_book.specs.Book.{bookOf}
 use Rattle.delayed_auth.specs.declared.Keyed.{Keyed}
@@ -10,9 +9,6 @@ use Rattle.c_api.proofs.Answers.{slot-within}
 use borrow.Author.Needs.{needs}
 use Rattle.c_api.proofs.rimemagpie_key.Statement.{statement}
 use Rattle.c_api.proofs.rimemagpie_key.Tie as tie
-use Rattle.delayed_auth.proofs.named_row.Reads as named-row-reads
-use Rattle.key_book.proofs.key_of.Reads as key-of-reads
-use Rattle.refusal.proofs.number.Reads as number-reads
 
 named-row-requires : tie.Need-named-row-requires
 named-row-requires c κs = search needs

@@ -6,8 +6,6 @@ use Rattle.c_api.proofs.Answers.{seal-done, seal-refused}
 use borrow.Author.Needs.{needs}
 use Rattle.c_api.proofs.rimemagpie_seal.Statement.{statement}
 use Rattle.c_api.proofs.rimemagpie_seal.Tie as tie
-use Rattle.delayed_auth.proofs.seal.Reads as seal-reads
-use Rattle.refusal.proofs.number.Reads as number-reads
 
 seal-requires : tie.Need-seal-requires
 seal-requires c κs = search needs
