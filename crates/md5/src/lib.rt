@@ -287,7 +287,8 @@ fn settled(w: Words, s: &[u8], total: usize) -> Digest
     }
 }
 
-// The state with a piece more: the first bytes fill the tail, the others are taken straight from the piece.
+// The state with a piece more: the first bytes fill the tail, the others are taken straight from the piece. The bound is far above what the
+// entries ask for, and keeps every sum from wrapping.
 fn absorbed(d: Digest, piece: &[u8]) -> Digest
     requires { ⌜ d .total + length (now piece) ≤ 131072 ⌝ }
     ensures { λ v. ⌜ v ≡ absorb d (now (piece .entry)) ⌝ }
@@ -388,7 +389,7 @@ impl Digest {
         }
         let mut pad = [0u8; 64];
         pad[0] = 0x80;
-        let zeros = (119 - total % 64) % 64;
+        let zeros = (119 - total % BLOCK) % BLOCK;
         let padded = absorbed(self, &pad[..zeros + 1]);
         let bits = total * 8;
         let count = [
