@@ -1,7 +1,7 @@
 -- The ends of `check` and of the key entries: each is one leaf of its definition. The only file that unfolds these definitions.
 use mathlib.Core.Path.{_≡_, refl, sym, ap, _∙_}
 use mathlib.Core.Bool.{Bool, true, false}
-use mathlib.Core.List.{List, [], _∷_}
+use mathlib.Core.List.{List}
 use mathlib.Core.Option.{Option, none, some}
 use Prim.Native.Nat.{ℕ, _+_, _*_, _≤_, _<_}
 use native.Mathlib.Nat.{zero-add}
@@ -19,9 +19,7 @@ use Rattle.dhcp_message.specs.declared.Form.the-variants.{Refused as FormRefuse
 use Rattle.dhcp_message.proofs.Seals.{form-says, full-form}
 use Rattle.key_book.specs.Book.{Book, sound, rowOf, keyOf, keyStart, movedOn}
 use Rattle.key_book.proofs.Says.{sound-says, row-says, rows-within, key-says}
-use Rattle.delayed_auth.specs.declared.Verdict.{Verdict}
 use Rattle.delayed_auth.specs.declared.Verdict.the-variants.{Accepted, Refused}
-use Rattle.delayed_auth.specs.declared.Keyed.{Keyed}
 use Rattle.delayed_auth.specs.declared.Keyed.the-variants.{Row, NoKey}
 use Rattle.delayed_auth.specs.Check.{sameBytes, judgedBy, judgedRow, judgedSaid, judgedSound, checkOf}
 use Rattle.delayed_auth.specs.Key.{keyedRow, keyedSaid, keyedSound, keyedOf}

@@ -2,8 +2,8 @@
 use Prim.Native.Nat.{ℕ}
 use native.Mathlib.Omega.{arith}
 use mathlib.Core.Path.{_≡_, refl, sym, ap, _∙_}
-use mathlib.Core.Bool.{Bool, true, false}
-use mathlib.Core.List.{List, [], _∷_, _++_}
+use mathlib.Core.Bool.{true}
+use mathlib.Core.List.{List}
 use Rattle.refusal.specs.Number.{numberOf}
 use Rattle.refusal.specs.declared.Refusal.{Refusal}
 use Rattle.refusal.specs.declared.Refusal.the-variants.{WrongCookie}
@@ -16,7 +16,6 @@ use Rattle.dhcp_message.proofs.Examples.{bench-examples}
 use Rattle.key_book.specs.Book.{allBelow, sized, ascending, keySizes, sound, placeFrom, rowIn}
 use Rattle.key_book.proofs.Computed.{example-10}
 use Rattle.delayed_auth.specs.Check.{judgedRow, judgedSaid, judgedSound, checkOf, verdictNumber}
-use Rattle.book_card.specs.declared.ReadAnswer.{ReadAnswer}
 use Rattle.book_card.specs.Reading.{readNumber}
 use Rattle.book_card.specs.Examples.{bookB}
 use Rattle.book_card.proofs.Computed.{example-1, example-2}

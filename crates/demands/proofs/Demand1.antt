@@ -1,6 +1,6 @@
 -- Demand 1: each entry's answer is one leaf of its definition, and at each leaf the number applies and no lower one does (`Right`).
-use mathlib.Core.Path.{_≡_, refl, sym, ap, _∙_, subst}
-use mathlib.Core.Logic.{_↔_, _≢_, _⊎_}
+use mathlib.Core.Path.{_≡_, refl, sym, ap, _∙_}
+use mathlib.Core.Logic.{_≢_}
 use mathlib.Core.Bool.{Bool, true, false, cond, _&&_}
 use mathlib.Core.List.{List, []}
 use mathlib.Core.Option.{Option, none, some, Option·none-ne-some, Option·some-injective}
@@ -8,12 +8,12 @@ use Prim.Native.Nat.{ℕ, _+_, _<_, _≤_}
 use native.Mathlib.Decide.{decLe, ℕ-discrete}
 use native.Mathlib.Omega.{arith}
 use borrow.Author.Tests.{ltb-true, ltb-false, leb-true, leb-false}
-use lib.Dec.{leb, ltb, eqb}
+use lib.Dec.{leb, ltb}
 use lib.ListN.{length, getD, take, drop}
 use Rattle.refusal.specs.Number.{numberOf, done}
 use Rattle.refusal.specs.declared.Refusal.{Refusal}
 use Rattle.refusal.proofs.Names.{numbers-tell}
-use Rattle.refusal.specs.declared.Refusal.the-variants.{UnsoundBook, UnknownSecret, Replay, WrongMac, CounterSpent, TooLong, MalformedCard, NoRoomForCard, NoRoomForRows}
+use Rattle.refusal.specs.declared.Refusal.the-variants.{UnsoundBook, UnknownSecret, Replay, WrongMac, TooLong, MalformedCard, NoRoomForCard, NoRoomForRows}
 use Rattle.md5.specs.declared.Digest.{Digest}
 use Rattle.md5.specs.declared.Fed.{Fed}
 use Rattle.md5.specs.declared.Finished.{Finished}
@@ -23,7 +23,7 @@ use Rattle.md5.proofs.Promises.{refused-kept}
 use Rattle.hmac_md5.specs.declared.Mac.{Mac}
 use Rattle.hmac_md5.specs.Hmac.{keyMost, hmac, hmacOf}
 use Rattle.dhcp_message.specs.Bytes.{Bytes}
-use Rattle.dhcp_message.specs.Said.{Said, says, saidOf, named, formOf, formNames}
+use Rattle.dhcp_message.specs.Said.{says, saidOf, named, formOf, formNames}
 use Rattle.dhcp_message.specs.Image.{imageOf}
 use Rattle.dhcp_message.specs.Numbers.{Applies}
 use Rattle.dhcp_message.specs.declared.Auth.{Auth}

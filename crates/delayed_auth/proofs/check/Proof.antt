@@ -1,10 +1,8 @@
 -- `delayed_auth::check` meets its contract: the judgement, and the counter stored where it accepts.
-use Prim.Native.Nat.{ℕ}
-use mathlib.Core.Path.{_≡_, refl, sym, ap, _∙_}
-use mathlib.Core.List.{List}
+use mathlib.Core.Path.{sym, ap, _∙_}
 use Rattle.key_book.specs.Book.{bookOf}
 use Rattle.delayed_auth.specs.declared.Verdict.{Verdict}
-use Rattle.delayed_auth.specs.Check.{checkOf, receivedAfter}
+use Rattle.delayed_auth.specs.Check.{receivedAfter}
 use Rattle.delayed_auth.proofs.Judging.{accepted-within}
 use borrow.Author.Needs.{needs}
 use native.Mathlib.Omega.{arith}

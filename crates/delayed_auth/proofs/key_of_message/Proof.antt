@@ -1,8 +1,8 @@
 -- `delayed_auth::key_of_message` meets its contract: a named row of a sound book has its key within the store.
-use mathlib.Core.Path.{_≡_, refl, sym, ap, _∙_}
+use mathlib.Core.Path.{sym, ap, _∙_}
 use Rattle.key_book.specs.Book.{bookOf, movedOn}
 use Rattle.delayed_auth.specs.declared.Keyed.{Keyed}
-use Rattle.delayed_auth.specs.Key.{keyedOf, keyBytes, keyOffset}
+use Rattle.delayed_auth.specs.Key.{keyBytes, keyOffset}
 use Rattle.delayed_auth.proofs.Judging.{key-within, moved-none}
 use borrow.Author.Needs.{needs}
 use Rattle.delayed_auth.proofs.key_of_message.Statement.{statement}

@@ -1,6 +1,6 @@
 -- `delayed_auth::mac_of` meets its contract: `cover` leaves the image in front of a buffer that has room for any message.
 use Prim.Native.Nat.{ℕ, _≤_}
-use mathlib.Core.Path.{_≡_, sym, ap, _∙_}
+use mathlib.Core.Path.{sym, ap, _∙_}
 use mathlib.Core.List.{List}
 use lib.ListN.{length, replicate, length-replicate}
 use lib.Seq.{length-take-le}

@@ -1,10 +1,10 @@
 -- `delayed_auth::seal` meets its contract: the plan, and what it leads to (proofs/Plans.antt).
 use Prim.Native.Nat.{ℕ, _+_}
-use mathlib.Core.Path.{_≡_, refl, sym, ap, _∙_}
+use mathlib.Core.Path.{sym, ap, _∙_}
 use mathlib.Core.List.{List}
-use lib.ListN.{length, getD, set}
-use Rattle.key_book.specs.Book.{bookOf, keyOf}
-use Rattle.delayed_auth.specs.Seal.{Outcome, sealedMessage, sealOf, sealingOf, messageAfter, sentAfter}
+use lib.ListN.{length, getD}
+use Rattle.key_book.specs.Book.{bookOf}
+use Rattle.delayed_auth.specs.Seal.{Outcome, sealedMessage, sealingOf, messageAfter, sentAfter}
 use Rattle.delayed_auth.proofs.Plans.{seal-planned, ready-facts}
 use borrow.Author.Needs.{needs}
 use native.Mathlib.Omega.{arith}

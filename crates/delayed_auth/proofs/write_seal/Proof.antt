@@ -1,6 +1,6 @@
 -- `delayed_auth::write_seal` meets its contract: counter and id, then the MAC of what then stands there (proofs/Plans.antt).
 use Prim.Native.Nat.{ℕ, _+_, _-_}
-use mathlib.Core.Path.{_≡_, refl, sym, ap, _∙_}
+use mathlib.Core.Path.{_≡_, ap, _∙_}
 use mathlib.Core.List.{List, _++_}
 use lib.ListN.{length, take, drop}
 use Rattle.hmac_md5.specs.Hmac.{hmac}

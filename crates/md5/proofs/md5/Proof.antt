@@ -1,10 +1,7 @@
 -- `md5::md5` meets its contract: a fresh state, fed once and finished.
-use mathlib.Core.Path.{_≡_, sym, ap, _∙_}
-use Rattle.refusal.specs.Number.{done}
+use mathlib.Core.Path.{_≡_, ap, _∙_}
 use Rattle.md5.specs.declared.Digest.{Digest}
-use Rattle.md5.specs.declared.Fed.{Fed}
-use Rattle.md5.specs.declared.Finished.{Finished}
-use Rattle.md5.specs.Entries.{fresh, feedOf, finishOf, noDigest}
+use Rattle.md5.specs.Entries.{fresh, feedOf}
 use Rattle.md5.proofs.Promises.{md5-fed-refused, md5-fed-taken}
 use borrow.Author.Needs.{needs}
 use Rattle.md5.proofs.md5.Statement.{statement}
