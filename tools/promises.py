@@ -29,7 +29,6 @@ THEOREMS = [
     ("key_book", "Says", "sound-says", "SoundSays"),
     ("key_book", "Says", "row-says", "RowSays"),
     ("key_book", "Says", "rows-within", "RowsWithin"),
-    ("key_book", "Says", "rows-differ", "RowsDiffer"),
     ("key_book", "Says", "key-says", "KeySays"),
     ("key_book", "Says", "sound-depends", "SoundDepends"),
     ("key_book", "Says", "row-depends", "RowDepends"),

@@ -73,7 +73,10 @@ abbrev pub sentAfter : Outcome → List ℕ → List ℕ
 sentAfter (sealed row counter message) sent = set sent row counter
 sentAfter (unsealed r) sent = sent
 
--- the paper's number of an answer
+-- the paper's number of an answer, and of an outcome
+abbrev pub sealingNumber : Sealing → ℕ
+sealingNumber (Sealed counter) = done
+sealingNumber (Unsealed r) = numberOf r
+
 abbrev pub outcomeNumber : Outcome → ℕ
-outcomeNumber (sealed row counter message) = done
-outcomeNumber (unsealed r) = numberOf r
+outcomeNumber o = sealingNumber (sealingOf o)

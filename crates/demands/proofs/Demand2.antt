@@ -3,9 +3,9 @@
 -- is the MAC of the sealed message's own image.
 use mathlib.Core.Path.{_≡_, refl, sym, ap, _∙_}
 use mathlib.Core.List.{List, _++_}
-use Prim.Native.Nat.{ℕ, _+_, _^_, _<_}
+use Prim.Native.Nat.{ℕ, _+_, _*_, _^_, _<_}
 use native.Mathlib.Omega.{arith}
-use lib.ListN.{length}
+use lib.ListN.{length, getD, take, drop}
 use Rattle.hmac_md5.specs.Hmac.{hmac}
 use Rattle.dhcp_message.specs.Layout.{macSize}
 use Rattle.dhcp_message.specs.Bytes.{zeros}
@@ -15,11 +15,13 @@ use Rattle.dhcp_message.specs.Seal.{fields, sealedWith}
 use Rattle.dhcp_message.specs.declared.Auth.{Auth}
 use Rattle.dhcp_message.specs.declared.Form.the-variants.{Full}
 use Rattle.dhcp_message.proofs.Seals.{seal-laws}
-use Rattle.key_book.specs.Book.{Book, Lent, keyOf}
+use Rattle.key_book.specs.Limits.{slotSize}
+use Rattle.key_book.specs.Book.{Book, Lent, Sound, keyOf}
+use Rattle.key_book.proofs.Says.{row-says, rows-within, key-is}
 use Rattle.delayed_auth.specs.Seal.{sealedMessage}
-use Rattle.demands.specs.Accepts.{Seals}
+use Rattle.demands.specs.Accepts.{Names, Seals}
 use Rattle.demands.specs.Demand2.{Demand2}
-use Rattle.demands.proofs.Stages.{hmac-size, accepted-accepts, accepts-accepted, SealedBy, sealed-by, by-sealed}
+use Rattle.demands.proofs.Stages.{hmac-size, accepted-accepts, accepts-accepted, keyed-names, names-keyed, SealedBy, sealed-by, by-sealed}
 
 -- ---- the image of a sealed message
 
@@ -69,10 +71,19 @@ module _ (b : Book) (lent : Lent b) (id : ℕ) (m : List ℕ) (k c : ℕ) (n : L
             (w .right ∙ ap (hmac (keyOf b k)) (ap imageOf (w .bytes) ∙ image-any m a (w .form) c id (w .mac) (zeros macSize) size refl));
       }
 
+-- the key of a named row is the part of its slot
+key-there : (b : Book) → Sound b → (m : List ℕ) (k : ℕ) → Names b m k → keyOf b k ≡ take (getD (b .lengths) k 0) (drop (slotSize * k) (b .store))
+key-there b s m k w =
+    let used = row-says .row b (w .id) k .0 (w .secret) .used in
+    key-is b k (rows-within b s k used) (s .keys-to k used)
+
 pub demand-2 : Demand2
 demand-2 = record {
   accepted = λ b s m k c. (accepted-accepts b m k c s, accepts-accepted b m k c s);
   stored = λ b s m k c a. rw (accepts-accepted b m k c s a);
+  keyed = λ b s m k. (keyed-names b m k s, names-keyed b m k s);
+  key-content = λ b s m k w. rw (names-keyed b m k s w) (key-there b s m k w);
+  key-place = λ b s m k w. rw (names-keyed b m k s w);
   sealed-when = λ b s l id m k c n. (λ e. by-seals b l id m k c n (sealed-by b id m k c n s e), λ w. by-sealed b id m k c n s (seals-by b l id m k c n w));
   sent = λ b s l id m k c n w. rw (by-sealed b id m k c n s (seals-by b l id m k c n w));
   passes = λ b d s l t id g m k c n e j r q u.

@@ -23,7 +23,8 @@ use Rattle.key_book.proofs.Says.{sound-says, sound-depends, row-depends, row-sa
 use Rattle.delayed_auth.specs.Check.{judgedRow, judgedSaid, judgedSound, checkOf}
 use Rattle.delayed_auth.specs.Key.{keyedRow, keyedSaid, keyedSound, keyedOf, keyBytes}
 use Rattle.delayed_auth.specs.Seal.{counterMost, sealedMessage, sealedCounter, sealedRow, sealedForm, sealedSound, sealOf}
-use Rattle.demands.specs.Dependence.{SameSecrets, Names, SameForCheck, SameForSeal, SameInUse, Dependence}
+use Rattle.demands.specs.Accepts.{Names}
+use Rattle.demands.specs.Dependence.{SameSecrets, SameForCheck, SameForSeal, SameInUse, Dependence}
 use Rattle.demands.proofs.Stages.{hmac-size}
 
 -- ---- check and key
@@ -36,9 +37,9 @@ module _ (a b : Book) (m : List ℕ) where
       row : Sound a → (c id : ℕ) (mac : List ℕ) → named m ≡ some id → (o : Option ℕ) → rowOf a id ≡ o → judgedRow a m c mac o ≡ judgedRow b m c mac o
       row s c id mac e none f = refl
       row s c id mac e (some k) f =
-          let n : Names a m k = record { is-sound = s; id = id; name = e; row = f } in
-          let key : keyOf a k ≡ keyOf b k = w .key k n in
-          let received : getD (a .received) k 0 ≡ getD (b .received) k 0 = w .received k n in
+          let n : Names a m k = record { id = id; form = e; secret = f } in
+          let key : keyOf a k ≡ keyOf b k = w .key k s n in
+          let received : getD (a .received) k 0 ≡ getD (b .received) k 0 = w .received k s n in
           rw (key, received)
 
       said : Sound a → (x : Said) → saidOf m ≡ x → judgedSaid a m x ≡ judgedSaid b m x
@@ -64,13 +65,13 @@ module _ (a b : Book) (m : List ℕ) where
     unfolding keyedOf
     keyed-depends = keyed-sound (sound a) ∙ ap (keyedSound b m) (w .soundness)
 
-    pub key-bytes-depend : ((k : ℕ) → Names a m k → keyOf a k ≡ keyOf b k) → keyBytes a (keyedOf a m) ≡ keyBytes b (keyedOf b m)
+    pub key-bytes-depend : ((k : ℕ) → Sound a → Names a m k → keyOf a k ≡ keyOf b k) → keyBytes a (keyedOf a m) ≡ keyBytes b (keyedOf b m)
     unfolding keyedOf keyedSound keyedSaid named
     key-bytes-depend same = on (sound a) refl ∙ ap (keyBytes b) keyed-depends
       where
         row : Sound a → (id : ℕ) → named m ≡ some id → (o : Option ℕ) → rowOf a id ≡ o → keyBytes a (keyedRow o) ≡ keyBytes b (keyedRow o)
         row s id e none f = refl
-        row s id e (some k) f = same k (record { is-sound = s; id = id; name = e; row = f })
+        row s id e (some k) f = same k s (record { id = id; form = e; secret = f })
 
         said : Sound a → (x : Said) → saidOf m ≡ x → keyBytes a (keyedSaid a x) ≡ keyBytes b (keyedSaid a x)
         said s (refused r) e = refl
@@ -157,11 +158,11 @@ module _ (a b : Book) (w : SameInUse a b) where
       let t : Sound b = sound-says b .0 (sym (secrets .soundness) ∙ sound-says a .1 s) in
       key-depends a b s t k (record { used = l; used-too = omega (arith, z .same-rows); same-size = z .same-lengths k l; same-bytes = λ i h. w .bytes k i l h })
 
-  same-found : (m : List ℕ) (k : ℕ) → Names a m k → keyOf a k ≡ keyOf b k
-  same-found m k n = same-key k (n .is-sound) (used (n .id) k (n .row))
+  same-found : (m : List ℕ) (k : ℕ) → Sound a → Names a m k → keyOf a k ≡ keyOf b k
+  same-found m k s n = same-key k s (used (n .id) k (n .secret))
 
   in-use-check : (m : List ℕ) → SameForCheck a b m
-  in-use-check m = record { secrets = secrets; key = same-found m; received = λ k n. w .received k (used (n .id) k (n .row)) }
+  in-use-check m = record { secrets = secrets; key = same-found m; received = λ k s n. w .received k (used (n .id) k (n .secret)) }
 
   in-use-seal : (id : ℕ) → SameForSeal a b id
   in-use-seal id = record { secrets = secrets; key = λ k s e. same-key k s (used id k e); sent = λ k s e. w .sent k (used id k e) }

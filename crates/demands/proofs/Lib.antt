@@ -4,10 +4,11 @@ pub mod Dependence
 pub mod Channel
 pub mod Runs
 pub mod Steps
+pub mod ByRow
 pub mod Demand3
-pub mod Example3
 pub mod Woven
 pub mod LastCounter
 pub mod Lowest
 pub mod Demand1
 pub mod Bench
+pub mod History

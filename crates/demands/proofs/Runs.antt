@@ -1,8 +1,9 @@
--- Runs whose book is seen as a number of channels, where a step reads and writes one channel, or none.
--- Where the second run has the first one's steps, those of each channel in their order, and besides them only steps that change nothing,
--- each step of the first run has the same answer in the second, and each channel ends the same: for each channel by itself that is
--- proofs/Channel.antt, and this file goes between its indices and the lists of steps.
-use mathlib.Core.Path.{_≡_, refl, sym, ap}
+-- Runs over any state, seen as a number of channels, where a step reads and writes one channel, or none.
+-- Where the second run has the first one's steps, those of each channel in their order, and besides them only steps that change nothing
+-- where they stand, each step of the first run has the same answer in the second, and each channel ends the same. The two runs may start from
+-- two states: it is said of the channels that hold the same at both starts. For each channel by itself that is proofs/Channel.antt, and this
+-- file goes between its indices and the lists of steps.
+use mathlib.Core.Path.{_≡_, refl, sym, ap, _∙_}
 use mathlib.Core.Logic.{_≢_, inl, inr}
 use mathlib.Core.Option.{Option, none, some, discrete}
 use mathlib.Core.List.{List, [], _∷_}
@@ -12,8 +13,6 @@ use native.Mathlib.Nat.{le-refl, le-trans}
 use native.Mathlib.Decide.{ℕ-discrete, decLe}
 use native.Mathlib.Omega.{arith}
 use lib.ListN.{length, getElem?}
-use Rattle.key_book.specs.Book.{Book}
-use Rattle.demands.specs.Demand3.{Step, answerOf, bookAfter, answers, ending, before}
 use Rattle.demands.proofs.Channel
 use Rattle.demands.proofs.Channel.{search-below}
 
@@ -30,80 +29,109 @@ module _ {A : Type 0} where
 
 -- ---- the steps of a run by their places
 
-pub answer-at : (b : Book) (l : List Step) (i : ℕ) (s : Step) → getElem? l i ≡ some s → getElem? (answers b l) i ≡ some (answerOf (before b l i) s)
-answer-at b [] i s e = cc
-answer-at b (x ∷ l) zero s e = cc
-answer-at b (x ∷ l) (suc i) s e = answer-at (bookAfter b x) l i s e
+-- What is asked of the definitions of a run, by their clauses: each step finds the state as the last one left it.
+pub record Walk {State Step Answer : Type 0} (answerOf : State → Step → Answer) (after : State → Step → State) : Type 0 where
+  pub answers : State → List Step → List Answer
+  pub ending : State → List Step → State
+  pub before : State → List Step → ℕ → State
+  pub answers-next : (b : State) (s : Step) (l : List Step) → answers b (s ∷ l) ≡ answerOf b s ∷ answers (after b s) l
+  pub ending-none : (b : State) → ending b [] ≡ b
+  pub ending-next : (b : State) (s : Step) (l : List Step) → ending b (s ∷ l) ≡ ending (after b s) l
+  pub before-none : (b : State) (i : ℕ) → before b [] i ≡ b
+  pub before-first : (b : State) (s : Step) (l : List Step) → before b (s ∷ l) 0 ≡ b
+  pub before-next : (b : State) (s : Step) (l : List Step) (i : ℕ) → before b (s ∷ l) (suc i) ≡ before (after b s) l i
 
-pub next-at : (b : Book) (l : List Step) (i : ℕ) (s : Step) → getElem? l i ≡ some s → before b l (suc i) ≡ bookAfter (before b l i) s
-next-at b [] i s e = cc
-next-at b (x ∷ []) zero s e = cc
-next-at b (x ∷ y ∷ l) zero s e = cc
-next-at b (x ∷ l) (suc i) s e = next-at (bookAfter b x) l i s e
+module _ {State Step Answer : Type 0} {answerOf : State → Step → Answer} {after : State → Step → State} (run : Walk answerOf after) where
+  pub answer-at : (b : State) (l : List Step) (i : ℕ) (s : Step) → getElem? l i ≡ some s
+      → getElem? (run .answers b l) i ≡ some (answerOf (run .before b l i) s)
+  answer-at b [] i s e = cc
+  answer-at b (x ∷ l) zero s e = rw (run .answers-next b x l, run .before-first b x l) cc
+  answer-at b (x ∷ l) (suc i) s e = rw (run .answers-next b x l, run .before-next b x l i) (answer-at (after b x) l i s e)
 
-pub before-zero : (b : Book) (l : List Step) → before b l 0 ≡ b
-before-zero b [] = refl
-before-zero b (x ∷ l) = refl
+  pub before-zero : (b : State) (l : List Step) → run .before b l 0 ≡ b
+  before-zero b [] = run .before-none b 0
+  before-zero b (x ∷ l) = run .before-first b x l
 
--- a number that no step from i to j lowers
-pub never-falls : (f : Book → ℕ) (b : Book) (l : List Step) (i j : ℕ) → i ≤ j → j ≤ length l
-    → ((p : ℕ) (s : Step) → i ≤ p → p < j → getElem? l p ≡ some s → f (before b l p) ≤ f (bookAfter (before b l p) s))
-    → f (before b l i) ≤ f (before b l j)
-never-falls f b l i zero q m h = let e : i ≡ 0 = omega arith in rw e (le-refl _)
-never-falls f b l i (suc j) q m h =
-    elim (decLe i j) [
-      | no g ↦ let e : i ≡ suc j = omega arith in rw e (le-refl _)
-      | yes g ↦
-          let s = some-at l j (omega arith) in
-          rw (next-at b l j (s .0) (s .1))
-          (le-trans (never-falls f b l i j g (omega arith) (λ p t x y. h p t x (omega arith))) (h j (s .0) g (omega arith) (s .1)))
-    ]
+  pub next-at : (b : State) (l : List Step) (i : ℕ) (s : Step) → getElem? l i ≡ some s → run .before b l (suc i) ≡ after (run .before b l i) s
+  next-at b [] i s e = cc
+  next-at b (x ∷ l) zero s e = rw (run .before-next b x l 0, run .before-first b x l, before-zero (after b x) l) cc
+  next-at b (x ∷ l) (suc i) s e = rw (run .before-next b x l (suc i), run .before-next b x l i) (next-at (after b x) l i s e)
 
-pub end-at : (b : Book) (l : List Step) → before b l (length l) ≡ ending b l
-end-at b [] = refl
-end-at b (x ∷ l) = end-at (bookAfter b x) l
+  pub end-at : (b : State) (l : List Step) → run .before b l (length l) ≡ run .ending b l
+  end-at b [] = run .before-none b 0 ∙ sym (run .ending-none b)
+  end-at b (x ∷ l) = rw (run .before-next b x l (length l), run .ending-next b x l) (end-at (after b x) l)
 
-pub inv-at : (Inv : Book → Type 0) → ((b : Book) (s : Step) → Inv b → Inv (bookAfter b s)) → (b : Book) (l : List Step) (i : ℕ) → Inv b → Inv (before b l i)
-inv-at Inv f b [] i h = h
-inv-at Inv f b (x ∷ l) zero h = h
-inv-at Inv f b (x ∷ l) (suc i) h = inv-at Inv f (bookAfter b x) l i (f b x h)
+  -- what every step keeps holds of every state of a run
+  pub inv-at : (Inv : State → Type 0) → ((b : State) (s : Step) → Inv b → Inv (after b s)) → (b : State) (l : List Step) (i : ℕ)
+      → Inv b → Inv (run .before b l i)
+  inv-at Inv f b [] i h = rw (run .before-none b i) h
+  inv-at Inv f b (x ∷ l) zero h = rw (run .before-first b x l) h
+  inv-at Inv f b (x ∷ l) (suc i) h = rw (run .before-next b x l i) (inv-at Inv f (after b x) l i (f b x h))
+
+  pub inv-end : (Inv : State → Type 0) → ((b : State) (s : Step) → Inv b → Inv (after b s)) → (b : State) (l : List Step)
+      → Inv b → Inv (run .ending b l)
+  inv-end Inv f b l h = rw (← (end-at b l)) (inv-at Inv f b l (length l) h)
+
+  -- what no step from i to j breaks
+  pub kept-on : (P : State → Type 0) (b : State) (l : List Step) (i j : ℕ) → i ≤ j → j ≤ length l
+      → ((p : ℕ) (s : Step) → i ≤ p → p < j → getElem? l p ≡ some s → P (run .before b l p) → P (after (run .before b l p) s))
+      → P (run .before b l i) → P (run .before b l j)
+  kept-on P b l i zero q m h g = let e : i ≡ 0 = omega arith in rw (← e) g
+  kept-on P b l i (suc j) q m h g =
+      elim (decLe i j) [
+        | no n ↦ let e : i ≡ suc j = omega arith in rw (← e) g
+        | yes n ↦
+            let s = some-at l j (omega arith) in
+            rw (next-at b l j (s .0) (s .1))
+            (h j (s .0) n (omega arith) (s .1) (kept-on P b l i j n (omega arith) (λ p t x y. h p t x (omega arith)) g))
+      ]
+
+  -- a number that no step from i to j lowers
+  pub never-falls : (f : State → ℕ) (b : State) (l : List Step) (i j : ℕ) → i ≤ j → j ≤ length l
+      → ((p : ℕ) (s : Step) → i ≤ p → p < j → getElem? l p ≡ some s → f (run .before b l p) ≤ f (after (run .before b l p) s))
+      → f (run .before b l i) ≤ f (run .before b l j)
+  never-falls f b l i j q m h = kept-on (λ x. f (run .before b l i) ≤ f x) b l i j q m (λ p s x y e g. le-trans g (h p s x y e)) (le-refl _)
 
 -- ---- channels
 
-module _ {Ch : Type 0} (channel : Step → Option Ch) where
+module _ {Step Ch : Type 0} (channel : Step → Option Ch) where
   abbrev pub channelAt : Option Step → Option Ch
   channelAt none = none
   channelAt (some s) = channel s
 
--- What is asked of the steps: `holds c b` is what channel c holds in the book b, `Inv` holds of every book of a run, and `Alike s t` says
+-- What is asked of the steps: `holds c b` is what channel c holds in the state b, `Inv` holds of every state of a run, and `Alike s t` says
 -- that t is s but for what no step looks at.
 pub record Local
-    {Ch : Type 0} {C : Ch → Type 0} (channel : Step → Option Ch) (holds : (c : Ch) → Book → C c) (Inv : Book → Type 0) (Alike : Step → Step → Type 0)
+    {State Step Answer Ch : Type 0} {C : Ch → Type 0} (answerOf : State → Step → Answer) (after : State → Step → State)
+    (channel : Step → Option Ch) (holds : (c : Ch) → State → C c) (Inv : State → Type 0) (Alike : Step → Step → Type 0)
     : Type 0
   where
-    pub kept : (b : Book) (s : Step) → Inv b → Inv (bookAfter b s)
-    pub other : (b : Book) (s : Step) (c : Ch) → Inv b → channel s ≢ some c → holds c (bookAfter b s) ≡ holds c b
+    pub kept : (b : State) (s : Step) → Inv b → Inv (after b s)
+    pub other : (b : State) (s : Step) (c : Ch) → Inv b → channel s ≢ some c → holds c (after b s) ≡ holds c b
     pub channel-alike : (s t : Step) → Alike s t → channel s ≡ channel t
-    pub answer : (s t : Step) → Alike s t → (a b : Book) → Inv a → Inv b → ((c : Ch) → channel s ≡ some c → holds c a ≡ holds c b) → answerOf a s ≡ answerOf b t
-    pub change : (s t : Step) → Alike s t → (c : Ch) → channel s ≡ some c → (a b : Book) → Inv a → Inv b → holds c a ≡ holds c b
-        → holds c (bookAfter a s) ≡ holds c (bookAfter b t)
+    pub answer : (s t : Step) → Alike s t → (a b : State) → Inv a → Inv b → ((c : Ch) → channel s ≡ some c → holds c a ≡ holds c b)
+        → answerOf a s ≡ answerOf b t
+    pub change : (s t : Step) → Alike s t → (c : Ch) → channel s ≡ some c → (a b : State) → Inv a → Inv b → holds c a ≡ holds c b
+        → holds c (after a s) ≡ holds c (after b t)
 
 module _
-    {Ch : Type 0} {C : Ch → Type 0} (channel : Step → Option Ch) (holds : (c : Ch) → Book → C c) (Inv : Book → Type 0) (Alike : Step → Step → Type 0)
-    (local : Local channel holds Inv Alike) (same? : Discrete Ch) (b : Book) (good : Inv b) (first second : List Step) (place : ℕ → ℕ)
+    {State Step Answer Ch : Type 0} {C : Ch → Type 0} {answerOf : State → Step → Answer} {after : State → Step → State}
+    {channel : Step → Option Ch} {holds : (c : Ch) → State → C c} {Inv : State → Type 0} {Alike : Step → Step → Type 0}
+    (run : Walk answerOf after) (local : Local answerOf after channel holds Inv Alike) (same? : Discrete Ch)
+    (a b : State) (good-a : Inv a) (good-b : Inv b) (first second : List Step) (place : ℕ → ℕ)
     (carried : (i : ℕ) (s : Step) → getElem? first i ≡ some s → (t : Step) × (getElem? second (place i) ≡ some t) × Alike s t)
     (order : (i j : ℕ) (s t : Step) (c : Ch) → getElem? first i ≡ some s → getElem? first j ≡ some t → channel s ≡ some c → channel t ≡ some c
     → i < j → place i < place j)
-    (extra : (p : ℕ) → p < length second → ((i : ℕ) → i < length first → place i ≢ p) → (c : Ch)
-    → holds c (before b second (suc p)) ≡ holds c (before b second p))
+    (put-in : (p : ℕ) → p < length second → ((i : ℕ) → i < length first → place i ≢ p)
+    → (t : Step) × (getElem? second p ≡ some t) × ((c : Ch) → holds c (after (run .before b second p) t) ≡ holds c (run .before b second p)))
   where
-    good₁ : (i : ℕ) → Inv (before b first i)
-    good₁ i = inv-at Inv (local .kept) b first i good
+    good₁ : (i : ℕ) → Inv (run .before a first i)
+    good₁ i = inv-at run Inv (local .kept) a first i good-a
 
-    good₂ : (p : ℕ) → Inv (before b second p)
-    good₂ p = inv-at Inv (local .kept) b second p good
+    good₂ : (p : ℕ) → Inv (run .before b second p)
+    good₂ p = inv-at run Inv (local .kept) b second p good-b
 
-    module _ (c : Ch) where
+    module _ (c : Ch) (start : holds c a ≡ holds c b) where
       On : ℕ → Type 0
       On i = channelAt channel (getElem? first i) ≡ some c
 
@@ -112,10 +140,10 @@ module _
       on? i = discrete same? (channelAt channel (getElem? first i)) (some c)
 
       fst : ℕ → C c
-      fst i = holds c (before b first i)
+      fst i = holds c (run .before a first i)
 
       snd : ℕ → C c
-      snd p = holds c (before b second p)
+      snd p = holds c (run .before b second p)
 
       inside : (i : ℕ) → i < length first → On i → place i < length second
       inside i l o =
@@ -134,22 +162,22 @@ module _
       unfolding On fst
       off₁ i l o =
           let s = some-at first i l in
-          rw (next-at b first i (s .0) (s .1)) (local .other _ _ c (good₁ i) (λ e. o (rw (s .1) e)))
+          rw (next-at run a first i (s .0) (s .1)) (local .other _ _ c (good₁ i) (λ e. o (rw (s .1) e)))
 
       begins : fst 0 ≡ snd 0
       unfolding fst snd
-      begins = rw (before-zero b first, before-zero b second)
+      begins = rw (before-zero run a first, before-zero run b second) start
 
       off₂ : (p : ℕ) → p < length second → ((i : ℕ) → i < length first → On i → place i ≢ p) → snd (suc p) ≡ snd p
       unfolding On snd
       off₂ p l f =
           elim (search-below (λ i. place i ≡ p) (λ i. ℕ-discrete (place i) p) (length first)) [
-            | inr g ↦ extra p l g c
+            | inr g ↦ let t = put-in p l g in rw (next-at run b second p (t .0) (t .1)) (t .2 c)
             | inl h ↦
                 let i = h .0 in
                 let s = some-at first i (h .1) in
                 let t = carried i (s .0) (s .1) in
-                rw (next-at b second p (t .0) (rw (h .2) at (t .1)))
+                rw (next-at run b second p (t .0) (rw (h .2) at (t .1)))
                 (local .other _ _ c (good₂ p) (λ e. f i (h .1) (rw (s .1, local .channel-alike _ _ (t .2)) e) (h .2)))
           ]
 
@@ -158,23 +186,24 @@ module _
       on i l o e =
           let s = some-at first i l in
           let t = carried i (s .0) (s .1) in
-          rw (next-at b first i (s .0) (s .1), next-at b second (place i) (t .0) (t .1))
+          rw (next-at run a first i (s .0) (s .1), next-at run b second (place i) (t .0) (t .1))
           (local .change (s .0) (t .0) (t .2) c (rw (s .1) at o) _ _ (good₁ i) (good₂ (place i)) e)
 
-      held : (i : ℕ) → i < length first → On i → holds c (before b first i) ≡ holds c (before b second (place i))
+      held : (i : ℕ) → i < length first → On i → holds c (run .before a first i) ≡ holds c (run .before b second (place i))
       unfolding fst snd
       held = Channel.at (length first) (length second) place On on? fst snd inside inOrder begins off₁ off₂ on
 
-      pub same-ends : holds c (ending b second) ≡ holds c (ending b first)
+      pub same-ends : holds c (run .ending b second) ≡ holds c (run .ending a first)
       unfolding fst snd
       same-ends =
-          rw (← (end-at b second), ← (end-at b first))
+          rw (← (end-at run b second), ← (end-at run a first))
           (sym (Channel.ends (length first) (length second) place On on? fst snd inside inOrder begins off₁ off₂ on))
 
-    pub same-answers : (i : ℕ) → i < length first → getElem? (answers b second) (place i) ≡ getElem? (answers b first) i
+    -- a step of the first run whose channel, where it has one, holds the same at both starts
+    pub same-answer : (i : ℕ) (s : Step) → getElem? first i ≡ some s → ((c : Ch) → channel s ≡ some c → holds c a ≡ holds c b)
+        → getElem? (run .answers b second) (place i) ≡ getElem? (run .answers a first) i
     unfolding On
-    same-answers i l =
-        let s = some-at first i l in
-        let t = carried i (s .0) (s .1) in
-        rw (answer-at b first i (s .0) (s .1), answer-at b second (place i) (t .0) (t .1))
-        (ap some (sym (local .answer (s .0) (t .0) (t .2) _ _ (good₁ i) (good₂ (place i)) (λ c e. held c i l (rw (s .1) e)))))
+    same-answer i s e starts =
+        let t = carried i s e in
+        rw (answer-at run a first i s e, answer-at run b second (place i) (t .0) (t .1))
+        (ap some (sym (local .answer s (t .0) (t .2) _ _ (good₁ i) (good₂ (place i)) (λ c g. held c (starts c g) i (lt-at first i s e) (rw e g)))))

@@ -1,10 +1,10 @@
--- `checkOf` and `sealOf` by their stages: what an acceptance and a sealing say of each stage, and back. Demands 2 and 3 go by these laws.
+-- `checkOf`, `keyedOf` and `sealOf` by their stages: what an acceptance, a key and a sealing say of each stage, and back. Demands 2 and 3 go by these laws.
 -- Each stage takes what it looks at as its last argument, so a law goes by cases of that argument with the equation that it is what was looked at.
 use mathlib.Core.Path.{_≡_, refl, sym, ap, _∙_}
 use mathlib.Core.Logic.{_≢_}
 use mathlib.Core.Bool.{Bool, true, false, _&&_}
 use mathlib.Core.List.{List, [], _∷_}
-use mathlib.Core.Option.{Option, none, some}
+use mathlib.Core.Option.{Option, none, some, Option·none-ne-some, Option·some-injective}
 use Prim.Native.Nat.{ℕ, _+_, _≤_, _<_}
 use native.Mathlib.Omega.{arith}
 use borrow.Author.Tests.{ltb-true, eqb-true, eqb-false, eq-eqb, ne-eqb, lt-ltb, le-ltb}
@@ -14,7 +14,7 @@ use Rattle.refusal.specs.declared.Refusal.the-variants.{Replay}
 use Rattle.md5.specs.Message.{md5, output}
 use Rattle.hmac_md5.specs.Hmac.{hmac}
 use Rattle.dhcp_message.specs.Layout.{macSize}
-use Rattle.dhcp_message.specs.Said.{Said, refused, says, saidOf, formOf}
+use Rattle.dhcp_message.specs.Said.{Said, refused, says, saidOf, idOf, named, formOf}
 use Rattle.dhcp_message.specs.Image.{imageOf}
 use Rattle.dhcp_message.specs.declared.Auth.{Auth}
 use Rattle.dhcp_message.specs.declared.Form.{Form}
@@ -22,9 +22,11 @@ use Rattle.dhcp_message.specs.declared.Form.the-variants.{Refused as FormRefuse
 use Rattle.key_book.specs.Book.{Book, Sound, sound, rowOf, keyOf}
 use Rattle.key_book.proofs.Says.{sound-says}
 use Rattle.delayed_auth.specs.declared.Verdict.the-variants.{Accepted, Refused}
+use Rattle.delayed_auth.specs.declared.Keyed.the-variants.{Row}
+use Rattle.delayed_auth.specs.Key.{keyedRow, keyedSaid, keyedSound, keyedOf}
 use Rattle.delayed_auth.specs.Check.{sameBytes, judgedBy, judgedRow, judgedSaid, judgedSound, checkOf}
 use Rattle.delayed_auth.specs.Seal.{counterMost, sealed, sealedMessage, sealedCounter, sealedRow, sealedForm, sealedSound, sealOf}
-use Rattle.demands.specs.Accepts.{Accepts}
+use Rattle.demands.specs.Accepts.{Accepts, Names}
 
 pub never : {X : Type 0} → _≡_ {A = ℕ} 0 1 → X
 never e = absurd (omega arith)
@@ -127,6 +129,34 @@ module _ (b : Book) (m n : List ℕ) (said : saidOf n ≡ saidOf m) (image : ima
   pub check-same : checkOf b n ≡ checkOf b m
   unfolding checkOf
   check-same = same-sound (sound b)
+
+-- ---- the key of a message
+
+module _ (b : Book) (m : List ℕ) (k : ℕ) where
+  keyed-by-said : Sound b → keyedOf b m ≡ keyedSaid b (saidOf m)
+  unfolding keyedOf keyedSound
+  keyed-by-said s = rw (sound-says b .1 s)
+
+  keyed-row : (id : ℕ) → named m ≡ some id → (o : Option ℕ) → rowOf b id ≡ o → keyedRow o ≡ Row k → Names b m k
+  keyed-row id f none e h = never cc
+  keyed-row id f (some r) e h = let row : r ≡ k = cc in record { id = id; form = f; secret = e ∙ ap some row }
+
+  keyed-said : (x : Said) → saidOf m ≡ x → keyedSaid b x ≡ Row k → Names b m k
+  unfolding keyedSaid named
+  keyed-said (refused r) f h = never cc
+  keyed-said (says c id mac) f h = keyed-row id (ap idOf f) (rowOf b id) refl h
+
+  pub keyed-names : Sound b → keyedOf b m ≡ Row k → Names b m k
+  keyed-names s h = keyed-said (saidOf m) refl (sym (keyed-by-said s) ∙ h)
+
+  named-said : (id : ℕ) (x : Said) → idOf x ≡ some id → rowOf b id ≡ some k → keyedSaid b x ≡ Row k
+  unfolding keyedSaid
+  named-said id (refused r) e f = absurd (Option·none-ne-some _ e)
+  named-said id (says c j mac) e f = let same : j ≡ id = Option·some-injective _ _ e in rw (same, f)
+
+  pub names-keyed : Sound b → Names b m k → keyedOf b m ≡ Row k
+  unfolding named
+  names-keyed s w = keyed-by-said s ∙ named-said (w .id) (saidOf m) (w .form) (w .secret)
 
 -- ---- a seal
 

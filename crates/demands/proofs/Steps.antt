@@ -1,60 +1,86 @@
--- Nine laws of checks and seals, which is all that runs need to know of them: soundness reads no counter and an id has one row; a relay
--- change is not seen; a step reads and writes one counter of one row; an accepted counter is above the one there and a replay ever after.
+-- The laws of checks and seals, which is all that runs need to know of them: a step leaves a sound book sound and an id has one row; a relay
+-- change is not seen; a step reads one key and one counter, of one row, and writes that counter; an accepted counter is above the one there
+-- and a replay ever after.
 use mathlib.Core.Path.{_≡_, refl, sym, ap, _∙_}
 use mathlib.Core.List.{List}
 use mathlib.Core.Option.{some}
 use Prim.Native.Nat.{ℕ, _≤_, _<_}
-use lib.ListN.{length, getD}
+use lib.ListN.{length, getD, take, length-set}
 use Rattle.refusal.specs.declared.Refusal.the-variants.{Replay}
 use Rattle.dhcp_message.specs.Said.{idOf, named}
 use Rattle.dhcp_message.specs.Relay.{Relayed}
 use Rattle.dhcp_message.proofs.Relays.{relay-keeps}
-use Rattle.key_book.specs.Book.{Book, Sound, rowOf, keyOf}
+use Rattle.key_book.specs.Book.{Book, Sound, bookOf, rowOf, keyOf}
 use Rattle.key_book.specs.Laws.{Alike}
-use Rattle.key_book.proofs.Says.{sound-says, sound-depends, row-says, rows-within}
+use Rattle.key_book.proofs.Says.{sound-says, sound-depends, row-says, row-depends, rows-within}
 use Rattle.delayed_auth.specs.declared.Verdict.{Verdict}
 use Rattle.delayed_auth.specs.declared.Verdict.the-variants.{Accepted, Refused}
 use Rattle.delayed_auth.specs.Check.{checkOf, receivedAfter}
-use Rattle.delayed_auth.specs.Seal.{sealed, sealOf}
-use Rattle.demands.specs.Accepts.{Accepts}
+use Rattle.delayed_auth.specs.Seal.{Outcome, sealed, unsealed, sealOf, sentAfter}
+use Rattle.demands.specs.Accepts.{Accepts, Names}
 use Rattle.demands.specs.Dependence.{SameSecrets}
+use Rattle.demands.specs.Demand3.{Step, check, seal, bookAfter}
 use Rattle.demands.proofs.Stages.{accepted-accepts, replay-refused, check-same, sealed-by}
 use Rattle.demands.proofs.Demand2.{demand-2}
 use Rattle.demands.proofs.Dependence.{check-depends, seal-depends}
 
--- the same rows and keys, and counters of the same sizes: what no step changes
-pub record SameRows (a b : Book) : Type 0 where
-  pub ids : b .ids ≡ a .ids
-  pub lengths : b .lengths ≡ a .lengths
-  pub store : b .store ≡ a .store
-  pub rows : b .rows ≡ a .rows
-  pub received-size : length (b .received) ≡ length (a .received)
-  pub sent-size : length (b .sent) ≡ length (a .sent)
+-- ---- the books of a run: sound, with the ids, the row count and the room of the first one
 
-pub rows-refl : (b : Book) → SameRows b b
-rows-refl b = record { ids = refl; lengths = refl; store = refl; rows = refl; received-size = refl; sent-size = refl }
+pub record SameIds (a b : Book) : Type 0 where
+  pub is-sound : Sound b
+  pub room : length (b .ids) ≡ length (a .ids)
+  pub ids : take (b .rows) (b .ids) ≡ take (a .rows) (a .ids)
 
-module _ (a b : Book) (w : SameRows a b) where
-  same-alike : Alike b a
-  same-alike = record {
-    ids-size = ap length (w .ids);
-    lengths-size = ap length (w .lengths);
-    store-size = ap length (w .store);
-    received-size = w .received-size;
-    sent-size = w .sent-size;
-    same-rows = w .rows;
-    same-ids = λ k h. rw (w .ids);
-    same-lengths = λ k h. rw (w .lengths);
-  }
+pub ids-refl : (b : Book) → Sound b → SameIds b b
+ids-refl b s = record { is-sound = s; room = refl; ids = refl }
 
-  pub sound-kept : Sound a → Sound b
-  sound-kept s = sound-says b .0 (sound-depends b a same-alike ∙ sound-says a .1 s)
-
+module _ (a b : Book) (w : SameIds a b) where
   pub row-kept : (id : ℕ) → rowOf b id ≡ rowOf a id
-  row-kept id = rw (w .ids, w .rows)
+  row-kept id = row-depends b a id (w .ids)
 
-  pub key-kept : (k : ℕ) → keyOf b k ≡ keyOf a k
-  key-kept k = rw (w .store, w .lengths)
+  pub received-room : length (b .received) ≡ length (a .ids)
+  received-room = w .is-sound .sizes .received-agree ∙ w .room
+
+  pub sent-room : length (b .sent) ≡ length (a .ids)
+  sent-room = w .is-sound .sizes .sent-agree ∙ w .room
+
+received-size : (v : Verdict) (xs : List ℕ) → length (receivedAfter v xs) ≡ length xs
+received-size (Accepted k c) xs = length-set xs k c
+received-size (Refused r) xs = refl
+
+sent-size : (o : Outcome) (xs : List ℕ) → length (sentAfter o xs) ≡ length xs
+sent-size (sealed k c n) xs = length-set xs k c
+sent-size (unsealed r) xs = refl
+
+-- a sound book with other counters, as many of them, is sound
+counters-sound : (b : Book) (received sent : List ℕ) → length received ≡ length (b .received) → length sent ≡ length (b .sent)
+    → Sound b → Sound (bookOf (b .ids) (b .lengths) (b .store) received sent (b .rows))
+counters-sound b received sent e f s =
+    let d = bookOf (b .ids) (b .lengths) (b .store) received sent (b .rows) in
+    let w : Alike d b = record {
+      ids-size = refl;
+      lengths-size = refl;
+      store-size = refl;
+      received-size = e;
+      sent-size = f;
+      same-rows = refl;
+      same-ids = λ k h. refl;
+      same-lengths = λ k h. refl;
+    } in
+    sound-says d .0 (sound-depends d b w ∙ sound-says b .1 s)
+
+-- a step leaves a sound book sound, and changes no id
+pub step-keeps : (a b : Book) (s : Step) → SameIds a b → SameIds a (bookAfter b s)
+step-keeps a b (check m) h = record {
+  is-sound = counters-sound b _ _ (received-size (checkOf b m) (b .received)) refl (h .is-sound);
+  room = h .room;
+  ids = h .ids;
+}
+step-keeps a b (seal id m) h = record {
+  is-sound = counters-sound b _ _ refl (sent-size (sealOf b id m) (b .sent)) (h .is-sound);
+  room = h .room;
+  ids = h .ids;
+}
 
 -- an id has one row
 pub single : (b : Book) (i j k : ℕ) → rowOf b i ≡ some k → rowOf b j ≡ some k → i ≡ j
@@ -67,25 +93,36 @@ name-relayed m n q = relay-keeps .often m n q .name
 pub check-relayed : (b : Book) (m n : List ℕ) → Relayed m n → checkOf b n ≡ checkOf b m
 check-relayed b m n q = let w = relay-keeps .often m n q in check-same b m n (w .said) (w .image)
 
--- of the counters a check reads the named row's received one, and a seal the given id's sent one
-module _ (b₀ a b : Book) (s : Sound b₀) (v : SameRows b₀ a) (w : SameRows b₀ b) where
+-- what a check goes by of a row, and what a seal goes by: its key, and one of its counters
+abbrev pub receivedRow : ℕ → Book → List ℕ × ℕ
+receivedRow k b = (keyOf b k, getD (b .received) k 0)
+
+abbrev pub sentRow : ℕ → Book → List ℕ × ℕ
+sentRow k b = (keyOf b k, getD (b .sent) k 0)
+
+module _ (b₀ a b : Book) (v : SameIds b₀ a) (w : SameIds b₀ b) where
   secrets : SameSecrets a b
-  secrets = record {
-    soundness = sound-says a .1 (sound-kept b₀ a v s) ∙ sym (sound-says b .1 (sound-kept b₀ b w s));
-    ids = rw (v .ids, v .rows, w .ids, w .rows);
-  }
+  secrets = record { soundness = sound-says a .1 (v .is-sound) ∙ sym (sound-says b .1 (w .is-sound)); ids = v .ids ∙ sym (w .ids) }
 
-  keys : (k : ℕ) → keyOf a k ≡ keyOf b k
-  keys k = key-kept b₀ a v k ∙ sym (key-kept b₀ b w k)
+  pub check-reads : (m : List ℕ) → ((id k : ℕ) → named m ≡ some id → rowOf b₀ id ≡ some k → receivedRow k a ≡ receivedRow k b) → checkOf a m ≡ checkOf b m
+  check-reads m h = check-depends a b m (record {
+    secrets = secrets;
+    key = λ k s n. ap (λ (x : List ℕ × ℕ). x .0) (at k n);
+    received = λ k s n. ap (λ (x : List ℕ × ℕ). x .1) (at k n);
+  })
+    where
+      at : (k : ℕ) → Names a m k → receivedRow k a ≡ receivedRow k b
+      at k n = h (n .id) k (n .form) (sym (row-kept b₀ a v (n .id)) ∙ n .secret)
 
-  pub check-reads : (m : List ℕ) → ((id k : ℕ) → named m ≡ some id → rowOf b₀ id ≡ some k → getD (a .received) k 0 ≡ getD (b .received) k 0) → checkOf a m ≡ checkOf b m
-  check-reads m h =
-      check-depends a b m
-      (record { secrets = secrets; key = λ k n. keys k; received = λ k n. h (n .id) k (n .name) (sym (row-kept b₀ a v (n .id)) ∙ n .row) })
-
-  pub seal-reads : (id : ℕ) (m : List ℕ) → ((k : ℕ) → rowOf b₀ id ≡ some k → getD (a .sent) k 0 ≡ getD (b .sent) k 0) → sealOf a id m ≡ sealOf b id m
-  seal-reads id m h =
-      seal-depends a b id m (record { secrets = secrets; key = λ k t e. keys k; sent = λ k t e. h k (sym (row-kept b₀ a v id) ∙ e) })
+  pub seal-reads : (id : ℕ) (m : List ℕ) → ((k : ℕ) → rowOf b₀ id ≡ some k → sentRow k a ≡ sentRow k b) → sealOf a id m ≡ sealOf b id m
+  seal-reads id m h = seal-depends a b id m (record {
+    secrets = secrets;
+    key = λ k s e. ap (λ (x : List ℕ × ℕ). x .0) (at k e);
+    sent = λ k s e. ap (λ (x : List ℕ × ℕ). x .1) (at k e);
+  })
+    where
+      at : (k : ℕ) → rowOf a id ≡ some k → sentRow k a ≡ sentRow k b
+      at k e = h k (sym (row-kept b₀ a v id) ∙ e)
 
 -- there they store too; and an accepted counter is above the one there
 pub record AcceptedAt (b : Book) (m : List ℕ) (k c : ℕ) : Type 0 where
@@ -111,10 +148,11 @@ pub sealed-at : (b : Book) (id : ℕ) (m : List ℕ) (k c : ℕ) (n : List ℕ) 
 sealed-at b id m k c n s e = sealed-by b id m k c n s e .secret
 
 -- an accepted message is a replay where the row's counter is at least its own
-pub replays : (b₀ a b : Book) (m : List ℕ) (k c : ℕ) → Sound b₀ → SameRows b₀ a → SameRows b₀ b → checkOf a m ≡ Accepted k c → c ≤ getD (b .received) k 0 → checkOf b m ≡ Refused Replay
-replays b₀ a b m k c s v w e h =
-    let x = accepted-accepts a m k c (sound-kept b₀ a v s) e in
-    replay-refused b m (sound-kept b₀ b w s) c (x .id) k (x .mac) (x .form) (row-kept b₀ b w (x .id) ∙ sym (row-kept b₀ a v (x .id)) ∙ x .secret) h
+pub replays : (b₀ a b : Book) (m : List ℕ) (k c : ℕ) → SameIds b₀ a → SameIds b₀ b → checkOf a m ≡ Accepted k c → c ≤ getD (b .received) k 0
+    → checkOf b m ≡ Refused Replay
+replays b₀ a b m k c v w e h =
+    let x = accepted-accepts a m k c (v .is-sound) e in
+    replay-refused b m (w .is-sound) c (x .id) k (x .mac) (x .form) (row-kept b₀ b w (x .id) ∙ sym (row-kept b₀ a v (x .id)) ∙ x .secret) h
 
 -- a message that demand 2 doesn't accept leaves the counters as they are
 pub not-accepted : (b : Book) (m : List ℕ) → Sound b → ((k c : ℕ) → Accepts b m k c → ⊥) → receivedAfter (checkOf b m) (b .received) ≡ b .received

@@ -9,8 +9,8 @@ use native.Mathlib.Decide.{ℕ-discrete, decLe, decLt}
 use native.Mathlib.Omega.{arith}
 use lib.ListN.{length, getElem?, length-map}
 use Rattle.demands.specs.Accepts.{Accepts}
-use Rattle.demands.specs.Demand3.{Step, check, before, Carried, same, relayed, OneSecret, checks}
-use Rattle.demands.specs.Woven.{Item, carries, puts-in, stepIn, runOf, Woven, rest, next, WovenIsRearranged}
+use Rattle.demands.specs.Demand3.{Step, check, before, Carried, same, relayed, OneSecret, checks, seals}
+use Rattle.demands.specs.Woven.{Item, carries, puts-in, stepIn, runOf, Bound, Woven, rest, next, WovenIsRearranged}
 use Rattle.demands.proofs.Runs.{some-at}
 use Rattle.demands.proofs.Steps.{name-relayed}
 
@@ -77,14 +77,15 @@ record Placed (first : List Step) (items : List Item) (place : ℕ → ℕ) : Ty
   order : (i j : ℕ) (s t : Step) → getElem? first i ≡ some s → getElem? first j ≡ some t → OneSecret s t → i < j → place i < place j
   cover : (p : ℕ) (t : Step) → getElem? items p ≡ some (carries t) → (i : ℕ) × (i < length first) × (place i ≡ p)
 
--- a carried step is under the same secret
-one-secret : (s t u : Step) → OneSecret s t → Carried t u → OneSecret s u
-one-secret s t u q same = q
-one-secret s t u (checks e f) (relayed {m = m} {n = n} p r) = checks e (name-relayed m n r ∙ f)
+-- a step bound to another by `Rearranged` is bound to it, carried or not
+bound : (s t u : Step) → OneSecret s t → Carried t u → Bound s u
+bound s t u (checks {id = id} e f) same = (id, e, f)
+bound s t u seals same = refl
+bound s t u (checks {id = id} e f) (relayed {m = m} {n = n} p r) = (id, e, name-relayed m n r ∙ f)
 
 -- the first step put back: at length xs
 module _ (s t : Step) (ss : List Step) (xs ys : List Item) (c : Carried s t)
-    (f : (p : ℕ) (u : Step) → getElem? xs p ≡ some (carries u) → OneSecret s u → ⊥) (place : ℕ → ℕ) (h : Placed ss (xs ++ ys) place) where
+    (f : (p : ℕ) (u : Step) → getElem? xs p ≡ some (carries u) → Bound s u → ⊥) (place : ℕ → ℕ) (h : Placed ss (xs ++ ys) place) where
   place′ : ℕ → ℕ
   place′ zero = length xs
   place′ (suc i) = up (length xs) (place i)
@@ -108,7 +109,7 @@ module _ (s t : Step) (ss : List Step) (xs ys : List Item) (c : Carried s t)
       let x = h .carried j v b in
       elim (decLe (length xs) (place j)) [
         | yes l ↦ l
-        | no l ↦ absurd (f (place j) (x .0) (sym (at-front xs ys (place j) (omega arith)) ∙ x .1) (one-secret s v (x .0) q (x .2)))
+        | no l ↦ absurd (f (place j) (x .0) (sym (at-front xs ys (place j) (omega arith)) ∙ x .1) (bound s v (x .0) q (x .2)))
       ]
 
   order′ : (i j : ℕ) (u v : Step) → getElem? (s ∷ ss) i ≡ some u → getElem? (s ∷ ss) j ≡ some v → OneSecret u v → i < j → place′ i < place′ j

@@ -1,4 +1,4 @@
--- When a check accepts, and when a seal seals, in plain sight: document 00, demand 2.
+-- When a check accepts, when a message has a key, and when a seal seals, in plain sight: document 00, demand 2.
 use Prim.Native.Nat.{ℕ, _+_, _<_}
 use mathlib.Core.Path.{_≡_}
 use mathlib.Core.List.{List, _++_}
@@ -7,7 +7,7 @@ use lib.ListN.{getD}
 use Rattle.hmac_md5.specs.Hmac.{hmac}
 use Rattle.dhcp_message.specs.Layout.{counterAt}
 use Rattle.dhcp_message.specs.Bytes.{written}
-use Rattle.dhcp_message.specs.Said.{says, saidOf, formOf}
+use Rattle.dhcp_message.specs.Said.{says, saidOf, named, formOf}
 use Rattle.dhcp_message.specs.Image.{imageOf}
 use Rattle.dhcp_message.specs.Seal.{fields}
 use Rattle.dhcp_message.specs.declared.Auth.{Auth}
@@ -27,6 +27,14 @@ pub record Accepts (b : Book) (m : List ℕ) (k c : ℕ) : Type 0 where
   pub above : getD (b .received) k 0 < c
   -- its MAC is right over the message as RFC 3118, section 3, has it read
   pub right : mac ≡ hmac (keyOf b k) (imageOf m)
+
+-- Message m names the secret of row k: its key is handed out.
+pub record Names (b : Book) (m : List ℕ) (k : ℕ) : Type 0 where
+  pub id : ℕ
+  -- the form of delayed authentication, as numbers 2 to 9 judge it: the message names a secret
+  pub form : named m ≡ some id
+  -- its secret is in the book
+  pub secret : rowOf b id ≡ some k
 
 -- Under the given id the book seals message m at row k with counter c, and n is what it leaves.
 pub record Seals (b : Book) (id : ℕ) (m : List ℕ) (k c : ℕ) (n : List ℕ) : Type 0 where

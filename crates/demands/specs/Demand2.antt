@@ -1,21 +1,31 @@
--- Demand 2 (document 00): what is accepted, what is sealed, and that what we seal passes. Its one proof is proofs/Demand2.antt.
-use Prim.Native.Nat.{ℕ, _^_, _<_}
+-- Demand 2 (document 00): what is accepted, whose key a message has, what is sealed, and that what we seal passes. Its one proof is
+-- proofs/Demand2.antt.
+use Prim.Native.Nat.{ℕ, _*_, _^_, _<_}
 use mathlib.Core.Path.{_≡_}
 use mathlib.Core.Logic.{_↔_}
 use mathlib.Core.List.{List}
 use mathlib.Core.Option.{some}
-use lib.ListN.{getD, set}
+use lib.ListN.{getD, set, take, drop}
+use Rattle.key_book.specs.Limits.{slotSize}
 use Rattle.key_book.specs.Book.{Book, Lent, Sound, rowOf, keyOf}
 use Rattle.delayed_auth.specs.declared.Verdict.the-variants.{Accepted}
 use Rattle.delayed_auth.specs.Check.{checkOf, receivedAfter}
+use Rattle.delayed_auth.specs.declared.Keyed.the-variants.{Row}
+use Rattle.delayed_auth.specs.Key.{keyedOf, keyBytes, keyOffset}
 use Rattle.delayed_auth.specs.Seal.{sealed, sealOf, sentAfter}
-use Rattle.demands.specs.Accepts.{Accepts, Seals}
+use Rattle.demands.specs.Accepts.{Accepts, Names, Seals}
 
 pub record Demand2 : Type 0 where
   -- on a sound book a message is accepted exactly when form, secret, counter and HMAC are right
   pub accepted : (b : Book) → Sound b → (m : List ℕ) (k c : ℕ) → (checkOf b m ≡ Accepted k c) ↔ Accepts b m k c
   -- its counter is then stored: the received counters are the old ones with c at k
   pub stored : (b : Book) → Sound b → (m : List ℕ) (k c : ℕ) → Accepts b m k c → receivedAfter (checkOf b m) (b .received) ≡ set (b .received) k c
+  -- on a sound book a message has a key exactly when its form is right and its secret is in the book
+  pub keyed : (b : Book) → Sound b → (m : List ℕ) (k : ℕ) → (keyedOf b m ≡ Row k) ↔ Names b m k
+  -- it is that secret's: the part of the key store from its row's slot on, as many bytes as its key length
+  pub key-content : (b : Book) → Sound b → (m : List ℕ) (k : ℕ) → Names b m k
+      → keyBytes b (keyedOf b m) ≡ take (getD (b .lengths) k 0) (drop (slotSize * k) (b .store))
+  pub key-place : (b : Book) → Sound b → (m : List ℕ) (k : ℕ) → Names b m k → keyOffset (keyedOf b m) ≡ slotSize * k
   -- on a sound book a message is sealed exactly when form, secret and counter allow it, and then as `Seals` says
   pub sealed-when : (b : Book) → Sound b → Lent b → (id : ℕ) (m : List ℕ) (k c : ℕ) (n : List ℕ) → (sealOf b id m ≡ sealed k c n) ↔ Seals b id m k c n
   -- its counter is then stored

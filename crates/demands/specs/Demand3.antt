@@ -68,7 +68,7 @@ pub data OneSecret : Step → Step → Type 0 where
 
 -- The network makes the second run of the first: step i of the first stands at `place i` of the second.
 pub record Rearranged (b : Book) (first second : List Step) (place : ℕ → ℕ) : Type 0 where
-  -- each step has a place of its own
+  -- each step has a place of its own: said for the reader, no step of the proof uses it
   pub apart : (i j : ℕ) → i < length first → j < length first → place i ≡ place j → i ≡ j
   -- where it stands as it is, or relayed
   pub carried : (i : ℕ) (s : Step) → getElem? first i ≡ some s → (t : Step) × (getElem? second (place i) ≡ some t) × Carried s t

@@ -6,7 +6,7 @@ use mathlib.Core.List.{List}
 use mathlib.Core.Option.{some}
 use lib.ListN.{length, getD, take}
 use Rattle.dhcp_message.specs.Layout.{sealSize}
-use Rattle.dhcp_message.specs.Said.{named, formOf}
+use Rattle.dhcp_message.specs.Said.{formOf}
 use Rattle.dhcp_message.specs.Seal.{sealedWith}
 use Rattle.dhcp_message.specs.declared.Auth.{Auth}
 use Rattle.dhcp_message.specs.declared.Form.the-variants.{Full}
@@ -16,24 +16,18 @@ use Rattle.key_book.specs.Laws.{Alike}
 use Rattle.delayed_auth.specs.Check.{checkOf}
 use Rattle.delayed_auth.specs.Key.{keyedOf, keyBytes}
 use Rattle.delayed_auth.specs.Seal.{sealOf}
+use Rattle.demands.specs.Accepts.{Names}
 
 -- two books agree in their soundness and in the ids of the rows in use
 pub record SameSecrets (a b : Book) : Type 0 where
   pub soundness : sound a ≡ sound b
   pub ids : take (a .rows) (a .ids) ≡ take (b .rows) (b .ids)
 
--- row k is the one that a check of the message finds on a sound book
-pub record Names (b : Book) (m : List ℕ) (k : ℕ) : Type 0 where
-  pub is-sound : Sound b
-  pub id : ℕ
-  pub name : named m ≡ some id
-  pub row : rowOf b id ≡ some k
-
 -- two books agree in all that a check of the message goes by
 pub record SameForCheck (a b : Book) (m : List ℕ) : Type 0 where
   pub secrets : SameSecrets a b
-  pub key : (k : ℕ) → Names a m k → keyOf a k ≡ keyOf b k
-  pub received : (k : ℕ) → Names a m k → getD (a .received) k 0 ≡ getD (b .received) k 0
+  pub key : (k : ℕ) → Sound a → Names a m k → keyOf a k ≡ keyOf b k
+  pub received : (k : ℕ) → Sound a → Names a m k → getD (a .received) k 0 ≡ getD (b .received) k 0
 
 -- two books agree in all that a seal under the id goes by
 pub record SameForSeal (a b : Book) (id : ℕ) : Type 0 where
@@ -52,7 +46,7 @@ pub record Dependence : Type 0 where
   pub check : (a b : Book) (m : List ℕ) → SameForCheck a b m → checkOf a m ≡ checkOf b m
   -- the key entry reads no counter
   pub keyed : (a b : Book) (m : List ℕ) → SameSecrets a b → keyedOf a m ≡ keyedOf b m
-  pub key-bytes : (a b : Book) (m : List ℕ) → SameSecrets a b → ((k : ℕ) → Names a m k → keyOf a k ≡ keyOf b k) → keyBytes a (keyedOf a m) ≡ keyBytes b (keyedOf b m)
+  pub key-bytes : (a b : Book) (m : List ℕ) → SameSecrets a b → ((k : ℕ) → Sound a → Names a m k → keyOf a k ≡ keyOf b k) → keyBytes a (keyedOf a m) ≡ keyBytes b (keyedOf b m)
   pub seal : (a b : Book) (id : ℕ) (m : List ℕ) → SameForSeal a b id → sealOf a id m ≡ sealOf b id m
   -- counter, id and MAC found in the message don't matter: with any others in their place the outcome is the same, and so are a sealed message's bytes
   pub found-fields : (b : Book) (id : ℕ) (m : List ℕ) (a : Auth) (other : List ℕ) → formOf m ≡ Full a → length other ≡ sealSize → sealOf b id (sealedWith a other m) ≡ sealOf b id m

@@ -12,7 +12,7 @@ use lib.ListN.{length, getD, take, drop, length-take, length-drop}
 use lib.Seq.{getD-take, getD-drop, ext-getD, length-take-le}
 use Rattle.key_book.specs.Limits.{slotSize}
 use Rattle.key_book.specs.Book.{Book, allBelow, sized, ascending, keySize, keySizes, sound, placeFrom, rowIn, rowOf, keyFits, keyStart, keyIn, keyOf}
-use Rattle.key_book.specs.Laws.{SizedSays, SoundSays, FirstRow, NoRow, RowSays, Within, RowsWithin, RowsDiffer, KeySays, SoundDepends, RowDepends, KeyDepends}
+use Rattle.key_book.specs.Laws.{SizedSays, SoundSays, FirstRow, NoRow, RowSays, Within, RowsWithin, KeySays, SoundDepends, RowDepends, KeyDepends}
 use Rattle.key_book.proofs.Below.{both, all-says, all-holds, all-alike, ascends}
 
 pub sized-says : SizedSays
@@ -146,14 +146,6 @@ rows-within b s k h =
       in-received = omega arith;
       in-sent = omega arith;
     }
-
-pub rows-differ : RowsDiffer
-rows-differ b s j k hj hk e = on (ltb j k) refl (ltb k j) refl
-  where
-    on : (t : Bool) → ltb j k ≡ t → (u : Bool) → ltb k j ≡ u → j ≡ k
-    on true p u q = absurd (omega (arith, s .ids-ascend j k (ltb-true j k p) hk))
-    on false p true q = absurd (omega (arith, s .ids-ascend k j (ltb-true k j q) hj))
-    on false p false q = omega (arith, ltb-false j k p, ltb-false k j q)
 
 module _ (b : Book) (k : ℕ) (w : Within b k) (t : getD (b .lengths) k 0 ≤ slotSize) where
   fits : keyFits (b .store) (b .lengths) k ≡ true

@@ -1,17 +1,38 @@
--- Document 01, bench example 10, on books of one row with room for it: a key of 64 bytes is sound, one of 65 is not, and none is not.
+-- The limits of a key book, from both sides: document 01, 'The key book' and bench example 10.
 use mathlib.Core.Path.{_≡_}
 use mathlib.Core.Bool.{true, false}
-use mathlib.Core.List.{[], _∷_}
-use Prim.Native.Nat.{ℕ}
+use mathlib.Core.List.{List, [], _∷_}
+use Prim.Native.Nat.{ℕ, zero, suc, _*_}
 use lib.ListN.{replicate}
 use Rattle.key_book.specs.Limits.{slotSize}
-use Rattle.key_book.specs.Book.{Book, bookOf, sound}
+use Rattle.key_book.specs.Book.{Book, bookOf, sized, sound}
 
--- one row whose key has so many bytes
+-- one row whose key has so many bytes, with room for it
 abbrev pub oneRow : ℕ → Book
 oneRow size = bookOf (7 ∷ []) (size ∷ []) (replicate slotSize 1) (10 ∷ []) (3 ∷ []) 1
 
+-- bench example 10: a key of 64 bytes is sound, one of 65 is not, and none is not
 pub record Example10 : Type 0 where
   pub largest-key : sound (oneRow 64) ≡ true
   pub key-too-long : sound (oneRow 65) ≡ false
   pub no-key : sound (oneRow 0) ≡ false
+
+-- room for so many rows, each with a slot of 64 bytes, none in use
+abbrev pub roomFor : ℕ → Book
+roomFor n = bookOf (replicate n 0) (replicate n 0) (replicate (64 * n) 0) (replicate n 0) (replicate n 0) 0
+
+-- so many numbers, from k on
+abbrev pub upFrom : ℕ → ℕ → List ℕ
+upFrom k zero = []
+upFrom k (suc n) = k ∷ upFrom (suc k) n
+
+-- so many rows, all in use, each with a key of one byte
+abbrev pub allUsed : ℕ → Book
+allUsed n = bookOf (upFrom 0 n) (replicate n 1) (replicate (64 * n) 0) (replicate n 0) (replicate n 0) n
+
+-- room for 1,024 rows and no more; 64 rows in use and no more
+pub record BookLimits : Type 0 where
+  pub most-room : sized (roomFor 1024) ≡ true
+  pub too-much-room : sized (roomFor 1025) ≡ false
+  pub most-rows : sound (allUsed 64) ≡ true
+  pub too-many-rows : sound (allUsed 65) ≡ false

@@ -42,10 +42,6 @@ pub record Within (b : Book) (k : ℕ) : Type 0 where
 abbrev pub RowsWithin : Type 0
 RowsWithin = (b : Book) → Sound b → (k : ℕ) → k < b .rows → Within b k
 
--- on a sound book an id has at most one row
-abbrev pub RowsDiffer : Type 0
-RowsDiffer = (b : Book) → Sound b → (j k : ℕ) → j < b .rows → k < b .rows → getD (b .ids) j 0 ≡ getD (b .ids) k 0 → j ≡ k
-
 -- a key: the first bytes of its row's slot, 1 to `slotSize` of them
 pub record KeyOfRow (b : Book) (k : ℕ) : Type 0 where
   pub size : length (keyOf b k) ≡ getD (b .lengths) k 0

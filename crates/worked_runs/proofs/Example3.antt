@@ -23,12 +23,12 @@ use Rattle.delayed_auth.specs.declared.Verdict.the-variants.{Accepted, Refused}
 use Rattle.delayed_auth.specs.Check.{sameBytes, judgedRow, judgedSaid, judgedSound, checkOf}
 use Rattle.delayed_auth.specs.Seal.{sealed, sealedMessage, sealedRow, sealedForm, sealedSound, sealOf}
 use Rattle.delayed_auth.specs.declared.Sealing.the-variants.{Sealed}
 use Rattle.demands.specs.Accepts.{Accepts}
 use Rattle.demands.specs.Demand3.{Step, check, seal, checked, wrote, answers, bookAfter, ending, before, Carried, same, relayed, OneSecret, checks, seals, Rearranged}
-use Rattle.demands.specs.Example3.{book, auth7, auth8, ended, relayInfo, sentMessage, relayedMessage, toSeal, sealedBytes, forged, first, second, place, Example3}
+use Rattle.worked_runs.specs.Example3.{book, auth7, auth8, ended, relayInfo, sentMessage, relayedMessage, toSeal, sealedBytes, forged, first, second, place, Example3}
 use Rattle.demands.proofs.Stages.{never}
 use Rattle.demands.proofs.Demand2.{demand-2}
 use Rattle.demands.proofs.Demand3.{demand-3}
 
 is-sound : Sound book
 unfolding sound sized ascending keySizes allBelow
@@ -67,7 +67,7 @@ first-ends = rw (step-0, step-1, step-2, step-3)
 -- ---- the second run: its steps are those of the first, or relayed
 
 -- a relay sets hops and giaddr, and changes option 82
-relays : (m n : List ℕ) → Passes27 m → (tokens tokens′ : List Token) → Reads (drop 240 m) tokens [] → RelayChange tokens tokens′ → (hops giaddr : ℕ) → hops < 256 → giaddr < 256
+pub relays : (m n : List ℕ) → Passes27 m → (tokens tokens′ : List Token) → Reads (drop 240 m) tokens [] → RelayChange tokens tokens′ → (hops giaddr : ℕ) → hops < 256 → giaddr < 256
     → n ≡ headWith (hops ∷ []) (10 ∷ 0 ∷ 0 ∷ giaddr ∷ []) (take 240 m) ++ (encode tokens′ ++ ended) → length n ≤ 1472 → Permitted m n
 relays m n p tokens tokens′ r c hops giaddr h g e l = record {
   passes = p;

@@ -1,0 +1,197 @@
+-- Checks and seals as steps on channels. What a step reads is one row's key with its received counter, or with its sent counter, and that
+-- counter it writes: its channel. Here is all that proofs/Runs.antt asks, for the books with the ids of one book b₀.
+use mathlib.Core.Path.{_≡_, refl, sym, ap, _∙_}
+use mathlib.Core.Logic.{_≢_}
+use mathlib.Core.Option.{Option, none, some, Option·map, Option·none-ne-some}
+use mathlib.Core.List.{List}
+use mathlib.Core.HLevel.{Discrete}
+use Prim.Native.Nat.{ℕ}
+use native.Mathlib.Decide.{ℕ-discrete, decLe}
+use native.Mathlib.Omega.{arith}
+use lib.ListN.{length, getD, set}
+use lib.Seq.{getD-set-same, getD-set-other, set-out}
+use Rattle.dhcp_message.specs.Said.{named}
+use Rattle.dhcp_message.specs.Relay.{Relayed, unchanged}
+use Rattle.key_book.specs.Book.{Book, rowOf, keyOf}
+use Rattle.delayed_auth.specs.declared.Verdict.{Verdict}
+use Rattle.delayed_auth.specs.declared.Verdict.the-variants.{Accepted, Refused}
+use Rattle.delayed_auth.specs.Check.{checkOf, receivedAfter}
+use Rattle.delayed_auth.specs.Seal.{Outcome, sealed, unsealed, sealOf, sealingOf, messageAfter, sentAfter}
+use Rattle.demands.specs.Demand3.{Step, check, seal, checked, wrote, answerOf, bookAfter, answers, ending, before}
+use Rattle.demands.specs.Demand3.{Carried, same, relayed, OneSecret, checks, seals}
+use Rattle.demands.proofs.Stages.{never}
+use Rattle.demands.proofs.Runs.{Walk, Local}
+use Rattle.demands.proofs.Steps.{SameIds, step-keeps, row-kept, received-room, sent-room, single, name-relayed, check-relayed}
+use Rattle.demands.proofs.Steps.{receivedRow, sentRow, check-reads, seal-reads, accepted-at, sealed-at}
+
+-- the runs of specs/Demand3.antt
+abbrev pub walk : Walk answerOf bookAfter
+walk = record {
+  answers = answers;
+  ending = ending;
+  before = before;
+  answers-next = λ b s l. refl;
+  ending-none = λ b. refl;
+  ending-next = λ b s l. refl;
+  before-none = λ b i. refl;
+  before-first = λ b s l. refl;
+  before-next = λ b s l i. refl;
+}
+
+pub data Channel : Type 0 where
+  receives : ℕ → Channel
+  sends : ℕ → Channel
+  deriving Discrete as Channel-discrete
+
+pub channel? : Discrete Channel
+channel? = Channel-discrete ℕ-discrete
+
+abbrev pub holds : Channel → Book → List ℕ × ℕ
+holds (receives k) b = receivedRow k b
+holds (sends k) b = sentRow k b
+
+-- a key, and one store into two lists of one size
+row-set : (x y : List ℕ) (a b : List ℕ) (r d k : ℕ) → length a ≡ length b → _≡_ {A = List ℕ × ℕ} (x, getD a k 0) (y, getD b k 0)
+    → _≡_ {A = List ℕ × ℕ} (x, getD (set a r d) k 0) (y, getD (set b r d) k 0)
+row-set x y a b r d k l e =
+    elim (ℕ-discrete k r) [
+      | no g ↦ rw (getD-set-other a r k d 0 g, getD-set-other b r k d 0 g) e
+      | yes g ↦ elim (decLe (length a) r) [
+        | yes q ↦ rw (set-out a r d q, set-out b r d (omega arith)) e
+        | no q ↦
+            let key : x ≡ y = ap (λ (z : List ℕ × ℕ). z .0) e in
+            rw (g, getD-set-same a r d 0 (omega arith), getD-set-same b r d 0 (omega arith), key)
+      ]
+    ]
+
+map-of : {A B : Type 0} (f : A → B) (o : Option A) (c : B) → Option·map f o ≡ some c → (r : A) × (c ≡ f r) × (o ≡ some r)
+map-of f none c e = absurd (Option·none-ne-some c e)
+map-of f (some r) c e = (r, cc, refl)
+
+-- a carried step: a check relayed any number of times, none among them, or a seal as it is
+pub data Alike : Step → Step → Type 0 where
+  check-alike : {m n : List ℕ} → Relayed m n → Alike (check m) (check n)
+  seal-alike : {id : ℕ} {m : List ℕ} → Alike (seal id m) (seal id m)
+
+pub alike : (s t : Step) → Carried s t → Alike s t
+alike s t (relayed p q) = check-alike q
+alike s t (same {s = check m}) = check-alike unchanged
+alike s t (same {s = seal id m}) = seal-alike
+
+module _ (b₀ : Book) where
+  found : Option ℕ → Option ℕ
+  found none = none
+  found (some id) = rowOf b₀ id
+
+  found-id : (o : Option ℕ) (k : ℕ) → found o ≡ some k → (id : ℕ) × (o ≡ some id) × (rowOf b₀ id ≡ some k)
+  unfolding found
+  found-id none k e = absurd (Option·none-ne-some k e)
+  found-id (some id) k e = (id, refl, e)
+
+  found-row : (o : Option ℕ) (id k : ℕ) → o ≡ some id → rowOf b₀ id ≡ some k → found o ≡ some k
+  unfolding found
+  found-row o id k e f = rw e f
+
+  pub channel : Step → Option Channel
+  channel (check m) = Option·map receives (found (named m))
+  channel (seal id m) = Option·map sends (rowOf b₀ id)
+
+  -- the channel of a step: the row of the secret that it names
+  pub check-channel : (m : List ℕ) (id : ℕ) (c : Channel) → named m ≡ some id → channel (check m) ≡ some c → (k : ℕ) × (c ≡ receives k) × (rowOf b₀ id ≡ some k)
+  unfolding channel found
+  check-channel m id c e f = map-of receives (rowOf b₀ id) c (rw e at f)
+
+  pub seal-channel : (m : List ℕ) (id : ℕ) (c : Channel) → channel (seal id m) ≡ some c → (k : ℕ) × (c ≡ sends k) × (rowOf b₀ id ≡ some k)
+  unfolding channel
+  seal-channel m id c f = map-of sends (rowOf b₀ id) c f
+
+  channel-alike : (s t : Step) → Alike s t → channel s ≡ channel t
+  unfolding channel
+  channel-alike s t (check-alike {m = m} {n = n} q) = ap (λ (o : Option ℕ). Option·map receives (found o)) (sym (name-relayed m n q))
+  channel-alike s t seal-alike = refl
+
+  -- two steps on one channel are under one secret
+  pub one-secret : (s t : Step) (c : Channel) → channel s ≡ some c → channel t ≡ some c → OneSecret s t
+  unfolding channel
+  one-secret (check m) (check n) c e f =
+      let v = map-of receives (found (named m)) c e in
+      let w = map-of receives (found (named n)) c f in
+      let x = found-id (named m) (v .0) (v .2) in
+      let y = found-id (named n) (w .0) (w .2) in
+      let g : v .0 ≡ w .0 = cc in
+      checks (x .1) (y .1 ∙ ap some (sym (single b₀ (x .0) (y .0) (w .0) (x .2 ∙ ap some g) (y .2))))
+  one-secret (check m) (seal j n) c e f =
+      let v = map-of receives (found (named m)) c e in
+      let w = map-of sends (rowOf b₀ j) c f in
+      never cc
+  one-secret (seal i m) (check n) c e f =
+      let v = map-of sends (rowOf b₀ i) c e in
+      let w = map-of receives (found (named n)) c f in
+      never cc
+  one-secret (seal i m) (seal j n) c e f =
+      let v = map-of sends (rowOf b₀ i) c e in
+      let w = map-of sends (rowOf b₀ j) c f in
+      let g : v .0 ≡ w .0 = cc in
+      rw (single b₀ i j (w .0) (v .2 ∙ ap some g) (w .2)) seals
+
+  other : (b : Book) (s : Step) (c : Channel) → SameIds b₀ b → channel s ≢ some c → holds c (bookAfter b s) ≡ holds c b
+  unfolding channel
+  other b (check m) (sends k) h g = refl
+  other b (check m) (receives k) h g = ap (λ (n : ℕ). (keyOf b k, n)) (on (checkOf b m) refl)
+    where
+      on : (v : Verdict) → checkOf b m ≡ v → getD (receivedAfter v (b .received)) k 0 ≡ getD (b .received) k 0
+      on (Refused r) e = refl
+      on (Accepted r d) e =
+          let w = accepted-at b m r d (h .is-sound) e in
+          let row = found-row (named m) (w .id) r (w .name) (sym (row-kept b₀ b h (w .id)) ∙ w .row) in
+          getD-set-other (b .received) r k d 0 (λ x. g (ap (Option·map receives) row ∙ ap (λ (y : ℕ). some (receives y)) (sym x)))
+  other b (seal id m) (receives k) h g = refl
+  other b (seal id m) (sends k) h g = ap (λ (n : ℕ). (keyOf b k, n)) (on (sealOf b id m) refl)
+    where
+      on : (o : Outcome) → sealOf b id m ≡ o → getD (sentAfter o (b .sent)) k 0 ≡ getD (b .sent) k 0
+      on (unsealed r) e = refl
+      on (sealed r d n) e =
+          let row = sym (row-kept b₀ b h id) ∙ sealed-at b id m r d n (h .is-sound) e in
+          getD-set-other (b .sent) r k d 0 (λ x. g (ap (Option·map sends) row ∙ ap (λ (y : ℕ). some (sends y)) (sym x)))
+
+  module _ (a b : Book) (x : SameIds b₀ a) (y : SameIds b₀ b) where
+    same-check : (m n : List ℕ) → Relayed m n → ((c : Channel) → channel (check m) ≡ some c → holds c a ≡ holds c b) → checkOf a m ≡ checkOf b n
+    unfolding channel
+    same-check m n q h =
+        check-reads b₀ a b x y m (λ id k e f. h (receives k) (ap (Option·map receives) (found-row (named m) id k e f)))
+        ∙ sym (check-relayed b m n q)
+
+    same-seal : (id : ℕ) (m : List ℕ) → ((c : Channel) → channel (seal id m) ≡ some c → holds c a ≡ holds c b) → sealOf a id m ≡ sealOf b id m
+    unfolding channel
+    same-seal id m h = seal-reads b₀ a b x y id m (λ k e. h (sends k) (ap (Option·map sends) e))
+
+    answer : (s t : Step) → Alike s t → ((c : Channel) → channel s ≡ some c → holds c a ≡ holds c b) → answerOf a s ≡ answerOf b t
+    answer s t (check-alike {m = m} {n = n} q) h = ap checked (same-check m n q h)
+    answer s t (seal-alike {id = id} {m = m}) h = ap (λ (o : Outcome). wrote (sealingOf o) (messageAfter o m)) (same-seal id m h)
+
+    received-same : (v : Verdict) (k : ℕ) → receivedRow k a ≡ receivedRow k b
+        → _≡_ {A = List ℕ × ℕ} (keyOf a k, getD (receivedAfter v (a .received)) k 0) (keyOf b k, getD (receivedAfter v (b .received)) k 0)
+    received-same (Accepted r d) k e = row-set _ _ (a .received) (b .received) r d k (received-room b₀ a x ∙ sym (received-room b₀ b y)) e
+    received-same (Refused r) k e = e
+
+    sent-same : (o : Outcome) (k : ℕ) → sentRow k a ≡ sentRow k b
+        → _≡_ {A = List ℕ × ℕ} (keyOf a k, getD (sentAfter o (a .sent)) k 0) (keyOf b k, getD (sentAfter o (b .sent)) k 0)
+    sent-same (sealed r d n) k e = row-set _ _ (a .sent) (b .sent) r d k (sent-room b₀ a x ∙ sym (sent-room b₀ b y)) e
+    sent-same (unsealed r) k e = e
+
+    change : (s t : Step) → Alike s t → (c : Channel) → channel s ≡ some c → holds c a ≡ holds c b → holds c (bookAfter a s) ≡ holds c (bookAfter b t)
+    change s t (check-alike q) (sends k) e f = f
+    change s t (check-alike {m = m} {n = n} q) (receives k) e f =
+        rw (same-check m n q (λ d g. let z : d ≡ receives k = cc in rw z f)) (received-same (checkOf b n) k f)
+    change s t seal-alike (receives k) e f = f
+    change s t (seal-alike {id = id} {m = m}) (sends k) e f =
+        rw (same-seal id m (λ d g. let z : d ≡ sends k = cc in rw z f)) (sent-same (sealOf b id m) k f)
+
+  pub local : Local answerOf bookAfter channel holds (SameIds b₀) Alike
+  local = record {
+    kept = step-keeps b₀;
+    other = other;
+    channel-alike = channel-alike;
+    answer = λ s t q a b x y h. answer a b x y s t q h;
+    change = λ s t q c e a b x y h. change a b x y s t q c e h;
+  }

@@ -1,0 +1,101 @@
+-- The book against its history (document 02, M-112), for the runs of demand 3: what the counters of a secret at the end of a run say of what
+-- happened in it, and that one secret's story doesn't depend on another's. For runs of checks and seals. Its one proof is proofs/History.antt.
+use Prim.Native.Nat.{ℕ, _+_, _≤_, _<_}
+use mathlib.Core.Path.{_≡_}
+use mathlib.Core.Logic.{_≢_}
+use mathlib.Core.Bool.{cond}
+use mathlib.Core.List.{List, [], _∷_, _++_}
+use mathlib.Core.Option.{Option, none, some}
+use lib.Dec.{eqb}
+use lib.ListN.{length, getD, getElem?, take}
+use Rattle.dhcp_message.specs.Said.{named}
+use Rattle.key_book.specs.Book.{Book, Sound, rowOf, keyOf}
+use Rattle.delayed_auth.specs.declared.Verdict.{Verdict}
+use Rattle.delayed_auth.specs.declared.Verdict.the-variants.{Accepted, Refused}
+use Rattle.delayed_auth.specs.declared.Sealing.{Sealing}
+use Rattle.delayed_auth.specs.declared.Sealing.the-variants.{Sealed, Unsealed}
+use Rattle.delayed_auth.specs.Check.{checkOf}
+use Rattle.delayed_auth.specs.Seal.{sealOf, sealingOf}
+use Rattle.demands.specs.Demand3.{Step, check, seal, bookAfter, answers, ending}
+
+-- ---- what happened in a run
+
+-- the counter of a check that names the secret, where it is accepted
+abbrev pub counterIf : ℕ → Option ℕ → Verdict → List ℕ
+counterIf id none v = []
+counterIf id (some j) (Refused r) = []
+counterIf id (some j) (Accepted k c) = cond (eqb j id) (c ∷ []) []
+
+-- one for a seal under the secret, where it is done
+abbrev pub oneIf : ℕ → ℕ → Sealing → ℕ
+oneIf id j (Unsealed r) = 0
+oneIf id j (Sealed c) = cond (eqb j id) 1 0
+
+-- what a step adds to the secret's accepted counters, and to its seals done
+abbrev pub acceptedAt : ℕ → Book → Step → List ℕ
+acceptedAt id b (check m) = counterIf id (named m) (checkOf b m)
+acceptedAt id b (seal j m) = []
+
+abbrev pub doneAt : ℕ → Book → Step → ℕ
+doneAt id b (check m) = 0
+doneAt id b (seal j m) = oneIf id j (sealingOf (sealOf b j m))
+
+-- the counters of the secret's accepted messages, in the run's order
+abbrev pub acceptedIn : ℕ → Book → List Step → List ℕ
+acceptedIn id b [] = []
+acceptedIn id b (s ∷ ss) = acceptedAt id b s ++ acceptedIn id (bookAfter b s) ss
+
+-- the number of seals done under the secret
+abbrev pub sealsIn : ℕ → Book → List Step → ℕ
+sealsIn id b [] = 0
+sealsIn id b (s ∷ ss) = doneAt id b s + sealsIn id (bookAfter b s) ss
+
+-- ---- what is said of it
+
+-- the first is above this number, and each later one above the one before it
+abbrev pub RisesFrom : ℕ → List ℕ → Type 0
+RisesFrom n [] = Unit {0}
+RisesFrom n (c ∷ cs) = (n < c) × RisesFrom c cs
+
+-- one of them, and none is greater
+pub record Greatest (n : ℕ) (cs : List ℕ) : Type 0 where
+  pub place : ℕ
+  pub among : getElem? cs place ≡ some n
+  pub none-greater : (i c : ℕ) → getElem? cs i ≡ some c → c ≤ n
+
+-- a check that names the secret, or a seal under it
+pub data Concerns (id : ℕ) : Step → Type 0 where
+  names-it : {m : List ℕ} → named m ≡ some id → Concerns id (check m)
+  under-it : {m : List ℕ} → Concerns id (seal id m)
+
+-- Two books of the same sizes with the same ids in use, and as many; this secret's key and counters are the same, and every other secret's
+-- key and counters may be any.
+pub record OnlyOthersDiffer (id : ℕ) (a b : Book) : Type 0 where
+  pub room : length (a .ids) ≡ length (b .ids)
+  pub ids : take (a .rows) (a .ids) ≡ take (b .rows) (b .ids)
+  pub key : (k : ℕ) → rowOf a id ≡ some k → keyOf a k ≡ keyOf b k
+  pub received : (k : ℕ) → rowOf a id ≡ some k → getD (a .received) k 0 ≡ getD (b .received) k 0
+  pub sent : (k : ℕ) → rowOf a id ≡ some k → getD (a .sent) k 0 ≡ getD (b .sent) k 0
+
+-- the secret gets the same answers and bytes in both, step by step, and its counters end the same
+pub record SameFor (id : ℕ) (a b : Book) (run : List Step) : Type 0 where
+  pub same-answers : (i : ℕ) (s : Step) → getElem? run i ≡ some s → Concerns id s → getElem? (answers a run) i ≡ getElem? (answers b run) i
+  pub same-received : (k : ℕ) → rowOf a id ≡ some k → getD (ending a run .received) k 0 ≡ getD (ending b run .received) k 0
+  pub same-sent : (k : ℕ) → rowOf a id ≡ some k → getD (ending a run .sent) k 0 ≡ getD (ending b run .sent) k 0
+
+-- ---- for each secret of a sound book, its row being k, and any run
+
+pub record History : Type 0 where
+  -- the counters of its accepted messages rise strictly, the first above the starting one
+  pub accepted-rise : (b : Book) → Sound b → (id k : ℕ) → rowOf b id ≡ some k → (run : List Step)
+      → RisesFrom (getD (b .received) k 0) (acceptedIn id b run)
+  -- the stored received counter is the starting one where none was accepted, else the greatest of them
+  pub received-stays : (b : Book) → Sound b → (id k : ℕ) → rowOf b id ≡ some k → (run : List Step)
+      → acceptedIn id b run ≡ [] → getD (ending b run .received) k 0 ≡ getD (b .received) k 0
+  pub received-greatest : (b : Book) → Sound b → (id k : ℕ) → rowOf b id ≡ some k → (run : List Step)
+      → acceptedIn id b run ≢ [] → Greatest (getD (ending b run .received) k 0) (acceptedIn id b run)
+  -- the sent counter is the starting one plus the number of seals done
+  pub sent-counts : (b : Book) → Sound b → (id k : ℕ) → rowOf b id ≡ some k → (run : List Step)
+      → getD (ending b run .sent) k 0 ≡ getD (b .sent) k 0 + sealsIn id b run
+  -- what differs in other secrets is not seen
+  pub others-unseen : (a b : Book) → Sound a → Sound b → (id : ℕ) → OnlyOthersDiffer id a b → (run : List Step) → SameFor id a b run

@@ -1,0 +1,20 @@
+-- Three calls as a run of demand 3: a check, a seal, and the check again.
+use Prim.Native.Nat.{ℕ}
+use mathlib.Core.List.{List, [], _∷_}
+use Rattle.delayed_auth.specs.Check.{verdictNumber}
+use Rattle.delayed_auth.specs.Seal.{sealingNumber}
+use Rattle.demands.specs.Demand3.{Step, check, seal, Answer, checked, wrote}
+
+unfoldable pub again : List ℕ → ℕ → List ℕ → List Step
+again message id buffer = check message ∷ seal id buffer ∷ check message ∷ []
+
+-- the paper's number of a step's answer
+abbrev pub answerNumber : Answer → ℕ
+answerNumber (checked v) = verdictNumber v
+answerNumber (wrote s buffer) = sealingNumber s
+
+-- the buffer of the first seal among the answers
+abbrev pub bufferOf : List Answer → List ℕ
+bufferOf [] = []
+bufferOf (checked v ∷ rest) = bufferOf rest
+bufferOf (wrote s buffer ∷ rest) = buffer

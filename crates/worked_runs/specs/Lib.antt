@@ -1,0 +1,3 @@
+pub mod Calls
+pub mod Example3
+pub mod Crossed
