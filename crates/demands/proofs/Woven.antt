@@ -79,9 +79,9 @@ record Placed (first : List Step) (items : List Item) (place : ℕ → ℕ) : Ty
 
 -- a step bound to another by `Rearranged` is bound to it, carried or not
 bound : (s t u : Step) → OneSecret s t → Carried t u → Bound s u
-bound s t u (checks {id = id} e f) same = (id, e, f)
+bound s t u (checks e f) same = (_, e, f)
 bound s t u seals same = refl
-bound s t u (checks {id = id} e f) (relayed {m = m} {n = n} p r) = (id, e, name-relayed m n r ∙ f)
+bound s t u (checks e f) (relayed {m = m} {n = n} p r) = (_, e, name-relayed m n r ∙ f)
 
 -- the first step put back: at length xs
 module _ (s t : Step) (ss : List Step) (xs ys : List Item) (c : Carried s t)
