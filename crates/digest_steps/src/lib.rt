@@ -47,7 +47,10 @@ pub extern "C" fn digest_feed(
     piece: &[u8],
 ) -> u8
     ensures number { λ r. ⌜ r ≡ feedOf (stateOf (now (words .entry)) (now (tail .entry)) (now (total .entry))) (now (piece .entry)) .number ⌝ }
-    ensures words { λ _. ⌜ now (words .exit) ≡ wordsOf (feedOf (stateOf (now (words .entry)) (now (tail .entry)) (now (total .entry))) (now (piece .entry)) .state) ⌝ }
+    ensures words { λ _. ⌜
+        now (words .exit)
+        ≡ wordsOf (feedOf (stateOf (now (words .entry)) (now (tail .entry)) (now (total .entry))) (now (piece .entry)) .state)
+        ⌝ }
     ensures tail { λ _. ⌜ now (tail .exit) ≡ feedOf (stateOf (now (words .entry)) (now (tail .entry)) (now (total .entry))) (now (piece .entry)) .state .tail ⌝ }
     ensures total { λ _. ⌜ now (total .exit) ≡ feedOf (stateOf (now (words .entry)) (now (tail .entry)) (now (total .entry))) (now (piece .entry)) .state .total ⌝ }
 {
