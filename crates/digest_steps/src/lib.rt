@@ -48,11 +48,14 @@ pub extern "C" fn digest_feed(
 ) -> u8
     ensures number { λ r. ⌜ r ≡ feedOf (stateOf (now (words .entry)) (now (tail .entry)) (now (total .entry))) (now (piece .entry)) .number ⌝ }
     ensures words { λ _. ⌜
-        now (words .exit)
-        ≡ wordsOf (feedOf (stateOf (now (words .entry)) (now (tail .entry)) (now (total .entry))) (now (piece .entry)) .state)
+        now (words .exit) ≡ wordsOf (feedOf (stateOf (now (words .entry)) (now (tail .entry)) (now (total .entry))) (now (piece .entry)) .state)
         ⌝ }
-    ensures tail { λ _. ⌜ now (tail .exit) ≡ feedOf (stateOf (now (words .entry)) (now (tail .entry)) (now (total .entry))) (now (piece .entry)) .state .tail ⌝ }
-    ensures total { λ _. ⌜ now (total .exit) ≡ feedOf (stateOf (now (words .entry)) (now (tail .entry)) (now (total .entry))) (now (piece .entry)) .state .total ⌝ }
+    ensures tail { λ _. ⌜
+        now (tail .exit) ≡ feedOf (stateOf (now (words .entry)) (now (tail .entry)) (now (total .entry))) (now (piece .entry)) .state .tail
+        ⌝ }
+    ensures total { λ _. ⌜
+        now (total .exit) ≡ feedOf (stateOf (now (words .entry)) (now (tail .entry)) (now (total .entry))) (now (piece .entry)) .state .total
+        ⌝ }
 {
     let fed = state_of(words, tail, *total).feed(piece);
     let state = fed.state;

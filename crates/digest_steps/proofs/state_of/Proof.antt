@@ -19,7 +19,7 @@ element-copy-out-t16 c = search needs
 
 returns : tie.Need-returns
 unfolding stateOf
-returns c = search needs
+returns c = refl
 
 pub state-of-spec : {M : Type 1} → statement M
 state-of-spec =
