@@ -1,5 +1,5 @@
 // HMAC-MD5 (RFC 2104) for keys up to a block (document 01, 'MD5 and HMAC-MD5').
-// Not here: longer keys, which RFC 2104 digests first.
+// Not here: longer keys, which RFC 2104 digests first (the definition has them); they are refused.
 ghost use mathlib.Core.Path.{_≡_};
 ghost use mathlib.Core.List.{_++_};
 ghost use Prim.Native.Nat.{_+_, _≤_};
@@ -11,7 +11,7 @@ ghost use Rattle.hmac_md5.specs.Hmac.{masked, hmacOf};
 use md5::Digest;
 use refusal::Refusal;
 
-// The longest key.
+// The longest key that is taken.
 const KEY_MOST: usize = 64;
 
 // The longest message: what a digest takes, less the block that the key fills.
