@@ -1,16 +1,17 @@
 // HMAC-MD5 (RFC 2104) for keys up to a block (document 01, 'MD5 and HMAC-MD5').
-// Not here: longer keys, which RFC 2104 digests first.
+// Not here: longer keys, which RFC 2104 digests first (the definition has them); they are refused.
 ghost use mathlib.Core.Path.{_≡_};
 ghost use mathlib.Core.List.{_++_};
 ghost use Prim.Native.Nat.{_+_, _≤_};
 ghost use lib.ListN.{length};
+ghost use Rattle.md5.specs.Block.{blockSize};
 ghost use Rattle.md5.specs.Message.{md5};
 ghost use Rattle.md5.specs.Entries.{digestMost};
-ghost use Rattle.hmac_md5.specs.Hmac.{masked, keyMost, hmacOf};
+ghost use Rattle.hmac_md5.specs.Hmac.{masked, hmacOf};
 use md5::Digest;
 use refusal::Refusal;
 
-// The longest key.
+// The longest key that is taken.
 const KEY_MOST: usize = 64;
 
 // The longest message: what a digest takes, less the block that the key fills.
@@ -29,7 +30,7 @@ pub struct Mac {
 
 // The key with zeros after it up to a block, each byte by exclusive or with the mask.
 fn masked_key(key: &[u8], mask: u8) -> [u8; 64]
-    requires { ⌜ length (now key) ≤ keyMost ⌝ }
+    requires { ⌜ length (now key) ≤ blockSize ⌝ }
     ensures { λ r. ⌜ r ≡ masked (now (key .entry)) mask ⌝ }
 {
     let mut block = [mask; 64];

@@ -1,10 +1,14 @@
-//! MD5 as RFC 1321 has it, and the library's entry for a whole digest with its limit.
+//! MD5 as RFC 1321 has it, and the library's entries with their limit: the whole digest, and the
+//! digest in progress.
 
 use crate::refusal::Refusal;
 use std::sync::LazyLock;
 
 /// The most bytes the library takes into one digest.
 pub const DIGEST_MOST: usize = 65_535;
+
+/// The bytes of a block, and of a digest in progress's tail.
+const BLOCK: usize = 64;
 
 /// The starting words A, B, C, D (RFC 1321, section 3.3).
 const START: [u32; 4] = [0x67452301, 0xefcdab89, 0x98badcfe, 0x10325476];
@@ -34,12 +38,64 @@ pub fn digest(message: &[u8]) -> Result<[u8; 16], Refusal> {
     Ok(md5(message))
 }
 
+/// A digest in progress (document 01, 'MD5 and HMAC-MD5'): of the tail the first (total mod 64)
+/// bytes are in use. The fields may hold anything; every state has an answer.
+#[derive(Clone, Copy, Debug, PartialEq, Eq)]
+pub struct Progress {
+    pub words: [u32; 4],
+    pub tail: [u8; BLOCK],
+    pub total: u64,
+}
+
+impl Progress {
+    /// The fresh state.
+    pub fn begin() -> Self {
+        Progress {
+            words: START,
+            tail: [0; BLOCK],
+            total: 0,
+        }
+    }
+
+    /// The state with a piece more. Refused where the total is or would be above 65,535; the caller
+    /// then still has the state as given.
+    pub fn feed(self, piece: &[u8]) -> Result<Self, Refusal> {
+        let room = (DIGEST_MOST as u64).checked_sub(self.total);
+        if room.is_none_or(|room| piece.len() as u64 > room) {
+            return Err(Refusal::DigestSize);
+        }
+        let (words, left) = after_blocks(self.words, &[self.in_use(), piece].concat());
+        let mut tail = [0; BLOCK];
+        tail[..left.len()].copy_from_slice(&left);
+        Ok(Progress {
+            words,
+            tail,
+            total: self.total + piece.len() as u64,
+        })
+    }
+
+    /// The digest of what the state has taken. Refused where the total is above 65,535.
+    pub fn finish(self) -> Result<[u8; 16], Refusal> {
+        if self.total > DIGEST_MOST as u64 {
+            return Err(Refusal::DigestSize);
+        }
+        let last = [self.in_use(), &padding(self.total)].concat();
+        Ok(bytes_of(after_blocks(self.words, &last).0))
+    }
+
+    /// The bytes of the tail that wait for a whole block.
+    fn in_use(&self) -> &[u8] {
+        &self.tail[..(self.total % BLOCK as u64) as usize]
+    }
+}
+
 /// MD5 of a message of any length.
 pub fn md5(message: &[u8]) -> [u8; 16] {
-    let mut words = START;
-    for block in padded(message).chunks_exact(64) {
-        words = after_block(words, block);
-    }
+    bytes_of(after_blocks(START, &padded(message)).0)
+}
+
+/// The words' bytes, each word's lowest first (RFC 1321, section 3.5).
+fn bytes_of(words: [u32; 4]) -> [u8; 16] {
     let mut out = [0; 16];
     for (i, word) in words.iter().enumerate() {
         out[4 * i..4 * i + 4].copy_from_slice(&word.to_le_bytes());
@@ -47,16 +103,27 @@ pub fn md5(message: &[u8]) -> [u8; 16] {
     out
 }
 
-/// The message with one bit 1, zeros up to 56 modulo 64, and its length in bits as eight bytes.
+/// The message with its padding.
 fn padded(message: &[u8]) -> Vec<u8> {
-    let mut all = message.to_vec();
-    all.push(0x80);
-    while all.len() % 64 != 56 {
+    [message, &padding(message.len() as u64)].concat()
+}
+
+/// What follows a message of some length: one bit 1, zeros up to 56 modulo 64, and the length in
+/// bits as eight bytes.
+fn padding(length: u64) -> Vec<u8> {
+    let mut all = vec![0x80];
+    while (length % 64 + all.len() as u64) % 64 != 56 {
         all.push(0);
     }
-    let bits = (message.len() as u64).wrapping_mul(8);
-    all.extend_from_slice(&bits.to_le_bytes());
+    all.extend_from_slice(&length.wrapping_mul(8).to_le_bytes());
     all
+}
+
+/// The four words after all whole blocks, and the bytes behind the last one.
+fn after_blocks(start: [u32; 4], bytes: &[u8]) -> ([u32; 4], Vec<u8>) {
+    let blocks = bytes.chunks_exact(BLOCK);
+    let left = blocks.remainder().to_vec();
+    (blocks.fold(start, after_block), left)
 }
 
 /// The four words after one block of 64 bytes.
@@ -133,6 +200,33 @@ mod tests {
     fn padded_length() {
         for n in 0..300 {
             assert_eq!(padded(&vec![7; n]).len(), 64 * (1 + (n + 8) / 64), "{n}");
+        }
+    }
+
+    /// Byte by byte, and with an empty piece after each byte.
+    #[test]
+    fn progress_gives_the_digest() {
+        let message: Vec<u8> = (0..200).collect();
+        let mut state = Progress::begin();
+        for (n, byte) in message.iter().enumerate() {
+            assert_eq!(state.finish(), Ok(md5(&message[..n])), "{n} bytes");
+            assert_eq!(state.feed(&[]), Ok(state));
+            state = state.feed(&[*byte]).unwrap();
+            let used = (n + 1) % BLOCK;
+            assert_eq!(state.tail[used..], [0; BLOCK][used..], "{n} bytes");
+        }
+    }
+
+    #[test]
+    fn progress_takes_65535_bytes_and_no_more() {
+        let full = Progress::begin().feed(&[7; 65_535]).unwrap();
+        assert_eq!(full.finish(), Ok(md5(&[7; 65_535])));
+        assert_eq!(full.feed(&[]), Ok(full));
+        assert_eq!(full.feed(&[7]), Err(Refusal::DigestSize));
+        for total in [65_536, 1 << 32, u64::MAX] {
+            let past = Progress { total, ..full };
+            assert_eq!(past.feed(&[]), Err(Refusal::DigestSize));
+            assert_eq!(past.finish(), Err(Refusal::DigestSize));
         }
     }
 
