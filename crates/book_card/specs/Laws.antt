@@ -9,12 +9,23 @@ use Rattle.key_book.specs.Limits.{rowsMost, slotSize}
 use Rattle.key_book.specs.Book.{Book, Lent, Sized, Sound}
 use Rattle.key_book.specs.Laws.{SameKey}
 use Rattle.book_card.specs.Numbers.{Bytes}
-use Rattle.book_card.specs.Card.{Row, InOrder, cardOf}
-use Rattle.book_card.specs.Reader.{keyAt, closeSize, readCard}
+use Rattle.book_card.specs.Card.{Row, rowRecords, noRow, InOrder, cardOf}
+use Rattle.book_card.specs.Reader.{keyAt, closeSize, closed, FrontRows, rowsInFront, readCard}
 use Rattle.book_card.specs.Reading.{readOf, readBook}
 use Rattle.book_card.specs.Writing.{rowsOf, writeOf, written}
 use Rattle.book_card.specs.declared.ReadAnswer.the-variants.{Rows}
 use Rattle.book_card.specs.declared.WriteAnswer.the-variants.{Size}
+
+-- the rows in front of bytes: they are in order, the bytes begin with their records, any rows in order whose records the bytes begin with are the
+-- first of them, and they end closed exactly where the bytes are their card
+pub record InFront (s : List ℕ) (f : FrontRows) : Type 0 where
+  pub order : InOrder (f .rows)
+  pub bytes : s ≡ rowRecords (f .rows) ++ f .rest
+  pub most : (rows : List Row) (rest : List ℕ) → InOrder rows → s ≡ rowRecords rows ++ rest → rows ≡ take (length rows) (f .rows)
+  pub ends-closed : (f .ends ≡ closed) ↔ (s ≡ cardOf (f .rows))
+
+abbrev pub FrontSays : Type 0
+FrontSays = (s : List ℕ) → Bytes s → InFront s (rowsInFront s)
 
 -- the reader finds rows exactly where the bytes are the card of those rows, in order
 abbrev pub CardSays : Type 0
