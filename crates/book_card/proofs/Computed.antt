@@ -3,15 +3,19 @@ use mathlib.Core.Path.{refl}
 use Rattle.key_book.specs.Book.{allBelow, sized, ascending, keySizes, sound, keyFits, keyIn}
 use Rattle.book_card.specs.Numbers.{le, value, numberAt}
 use Rattle.book_card.specs.Card.{recordOf, rowRecord, close, rowRecords, cardOf}
-use Rattle.book_card.specs.Reader.{frontOf, readFrom, readCard}
+use Rattle.book_card.specs.Reader.{frontOf, frontFrom, rowsInFront, readCard}
 use Rattle.book_card.specs.Reading.{slotOf, slotsOf, laid, loaded, readOf, rowsIn, readBook}
 use Rattle.book_card.specs.Writing.{rowsFrom, rowsOf, writeOf, written}
-use Rattle.book_card.specs.Examples.{Example1, Example2}
+use Rattle.book_card.specs.Examples.{Example1, OrderedBytes, Example2}
 
 pub example-1 : Example1
-unfolding allBelow sized ascending keySizes sound keyFits keyIn le value numberAt recordOf rowRecord close rowRecords cardOf frontOf readFrom readCard slotOf slotsOf laid loaded readOf rowsIn readBook rowsFrom rowsOf writeOf written
+unfolding allBelow sized ascending keySizes sound keyFits keyIn le value numberAt recordOf rowRecord close rowRecords cardOf frontOf frontFrom rowsInFront readCard slotOf slotsOf laid loaded readOf rowsIn readBook rowsFrom rowsOf writeOf written
 example-1 = record { card = refl; size = refl; written-size = refl; written-bytes = refl; read-back = refl; read-book = refl }
 
+pub ordered-bytes : OrderedBytes
+unfolding le value numberAt recordOf rowRecord close rowRecords cardOf frontOf frontFrom rowsInFront readCard
+ordered-bytes = record { card = refl; rows = refl; whole = refl; cut = refl; twice = refl }
+
 pub example-2 : Example2
-unfolding sized value numberAt frontOf readFrom readCard readOf
+unfolding sized value numberAt frontOf frontFrom rowsInFront readCard readOf
 example-2 = record { no-rows = refl; no-rows-read = refl; one-byte-more = λ x. refl; one-byte-more-read = λ x. refl; its-number = refl }

@@ -2,8 +2,7 @@
 use mathlib.Core.Path.{_≡_, refl, sym, ap, ap₂, _∙_}
 use mathlib.Core.Logic.{_≢_}
 use mathlib.Core.Bool.{Bool, true, false, cond}
-use mathlib.Core.Option.{Option, none, some}
-use mathlib.Core.List.{List}
+use mathlib.Core.List.{List, _∷_}
 use Prim.Native.Nat.{ℕ, suc, _+_, _-_, _^_, _≤_, _<_}
 use native.Mathlib.Nat.{add-zero}
 use native.Mathlib.Omega.{arith}
@@ -14,40 +13,44 @@ use lib.Seq.{drop-drop}
 use Rattle.key_book.specs.Limits.{rowsMost}
 use Rattle.book_card.specs.Numbers.{Bytes}
 use Rattle.book_card.specs.Card.{Row}
-use Rattle.book_card.specs.Reader.{keyAt, closeSize, frontOf, rowFront, onto, stepFrom, readFrom, readCard, countedFrom}
+use Rattle.book_card.specs.Reader.{keyAt, closeSize, frontOf, rowFront, End, closed, fault, FrontRows, ended, onto, stepFrom, frontFrom, rowsInFront, rowsBy, cardIn, readCard, countedFrom}
 use Rattle.book_card.specs.declared.Front.{Front}
 use Rattle.book_card.specs.declared.Front.the-variants.{Broken, Row as RowFront, Close}
 use Rattle.book_card.specs.declared.Judged.the-variants.{Malformed, Rows as Counted}
 use Rattle.book_card.proofs.Little.{bytes-drop}
 use Rattle.book_card.proofs.Shape.{GoodRow, FrontGood, front-good}
-use Rattle.book_card.proofs.Says.{goOn, read-step}
+use Rattle.book_card.proofs.Says.{goOn, front-step}
 
 -- so many rows stand before `at`, and reading on from there gives the whole answer
 pub record Judging (card : List ℕ) (at rows low : ℕ) : Type 0 where
   pub within : at ≤ length card
   pub few : rows ≤ rowsMost
   pub low-fits : low ≤ 2 ^ 32
-  pub rest : countedFrom rows (readFrom (rowsMost - rows) low rows (drop at card)) ≡ countedFrom 0 (readCard card)
+  pub rest : countedFrom rows (cardIn (frontFrom (rowsMost - rows) low rows (drop at card))) ≡ countedFrom 0 (readCard card)
 
 pub judging-start : (card : List ℕ) → Judging card 0 0 0
-unfolding readCard
+unfolding readCard rowsInFront
 judging-start card = record { within = omega arith; few = omega arith; low-fits = omega arith; rest = refl }
 
 -- no row more: what is counted is malformed
-nothing-onto : (n : ℕ) (r : Row) (t : Bool) → Malformed ≡ countedFrom n (cond t none (onto r none))
-nothing-onto n r true = refl
-nothing-onto n r false = refl
+no-row-more : (n : ℕ) (s : List ℕ) (t : Bool) → Malformed ≡ countedFrom n (cardIn (cond t (ended fault s) (ended fault s)))
+no-row-more n s true = refl
+no-row-more n s false = refl
 
-counted-onto : (n : ℕ) (r : Row) (o : Option (List Row)) → countedFrom (n + 1) o ≡ countedFrom n (onto r o)
-counted-onto n r none = refl
-counted-onto n r (some rows) = let e : n + 1 + length rows ≡ n + suc (length rows) = omega arith in ap Counted e
+counted-onto : (n : ℕ) (r : Row) (f : FrontRows) → countedFrom (n + 1) (cardIn f) ≡ countedFrom n (cardIn (onto r f))
+counted-onto n r f = on (f .ends)
+  where
+    on : (e : End) → countedFrom (n + 1) (rowsBy (f .rows) e) ≡ countedFrom n (rowsBy (r ∷ f .rows) e)
+    on closed = let e : n + 1 + length (f .rows) ≡ n + suc (length (f .rows)) = omega arith in ap Counted e
+    on fault = refl
 
 module _ (card : List ℕ) (at rows low : ℕ) (j : Judging card at rows low) where
   abbrev rest : List ℕ
   rest = drop at card
 
-  on-front : (f : Front) → f ≡ frontOf rest → countedFrom rows (stepFrom (goOn (rowsMost - rows)) low rows rest f) ≡ countedFrom 0 (readCard card)
-  on-front f e = ap (λ (x : Front). countedFrom rows (stepFrom (goOn (rowsMost - rows)) low rows rest x)) e ∙ ap (countedFrom rows) (sym (read-step (rowsMost - rows) low rows rest)) ∙ j .rest
+  on-front : (f : Front) → f ≡ frontOf rest → countedFrom rows (cardIn (stepFrom (goOn (rowsMost - rows) rest) low rows rest f)) ≡ countedFrom 0 (readCard card)
+  on-front f e = ap (λ (x : Front). countedFrom rows (cardIn (stepFrom (goOn (rowsMost - rows) rest) low rows rest x))) e
+      ∙ ap (λ (f : FrontRows). countedFrom rows (cardIn f)) (sym (front-step (rowsMost - rows) low rows rest)) ∙ j .rest
 
   pub judged-broken : Broken ≡ frontOf rest → Malformed ≡ countedFrom 0 (readCard card)
   judged-broken e = on-front Broken e
@@ -77,8 +80,8 @@ module _ (card : List ℕ) (at rows low : ℕ) (j : Judging card at rows low) wh
     unfolding goOn
     judged-many h =
         let z : rowsMost - rows ≡ 0 = omega arith in
-        nothing-onto rows (rowFront rest size) (ltb id low)
-        ∙ ap (λ (n : ℕ). countedFrom rows (stepFrom (goOn n) low rows rest (RowFront id size))) (sym z) ∙ on-front (RowFront id size) e
+        no-row-more rows rest (ltb id low)
+        ∙ ap (λ (n : ℕ). countedFrom rows (cardIn (stepFrom (goOn n rest) low rows rest (RowFront id size)))) (sym z) ∙ on-front (RowFront id size) e
 
     module _ (h : rows ≢ rowsMost) where
       pub judged-low : id < low → Malformed ≡ countedFrom 0 (readCard card)
@@ -97,15 +100,15 @@ module _ (card : List ℕ) (at rows low : ℕ) (j : Judging card at rows low) wh
           let p : at + (keyAt + size) ≡ at + keyAt + size = omega arith in
           let q : suc rows ≡ rows + 1 = omega arith in
           let r : suc id ≡ id + 1 = omega arith in
-          let o = readFrom (rowsMost - (rows + 1)) (suc id) (suc rows) (drop (keyAt + size) rest) in
-          let s : countedFrom rows (onto (rowFront rest size) o) ≡ countedFrom 0 (readCard card) =
-          ap (λ (t : Bool). countedFrom rows (cond t none (onto (rowFront rest size) o))) (sym (le-ltb id low l))
-          ∙ ap (λ (n : ℕ). countedFrom rows (stepFrom (goOn n) low rows rest (RowFront id size))) (sym z) ∙ on-front (RowFront id size) e in
+          let o = frontFrom (rowsMost - (rows + 1)) (suc id) (suc rows) (drop (keyAt + size) rest) in
+          let s : countedFrom rows (cardIn (onto (rowFront rest size) o)) ≡ countedFrom 0 (readCard card) =
+          ap (λ (t : Bool). countedFrom rows (cardIn (cond t (ended fault rest) (onto (rowFront rest size) o)))) (sym (le-ltb id low l))
+          ∙ ap (λ (n : ℕ). countedFrom rows (cardIn (stepFrom (goOn n rest) low rows rest (RowFront id size)))) (sym z) ∙ on-front (RowFront id size) e in
           record {
             within = omega arith;
             few = omega arith;
             low-fits = omega arith;
-            rest = ap (λ (x : List ℕ). countedFrom (rows + 1) (readFrom (rowsMost - (rows + 1)) (id + 1) (rows + 1) x)) (ap (λ (n : ℕ). drop n card) (sym p) ∙ sym (drop-drop (keyAt + size) at card))
-                ∙ ap₂ (λ (x y : ℕ). countedFrom (rows + 1) (readFrom (rowsMost - (rows + 1)) x y (drop (keyAt + size) rest))) (sym r) (sym q)
+            rest = ap (λ (x : List ℕ). countedFrom (rows + 1) (cardIn (frontFrom (rowsMost - (rows + 1)) (id + 1) (rows + 1) x))) (ap (λ (n : ℕ). drop n card) (sym p) ∙ sym (drop-drop (keyAt + size) at card))
+                ∙ ap₂ (λ (x y : ℕ). countedFrom (rows + 1) (cardIn (frontFrom (rowsMost - (rows + 1)) x y (drop (keyAt + size) rest)))) (sym r) (sym q)
                 ∙ counted-onto rows (rowFront rest size) o ∙ s;
           }

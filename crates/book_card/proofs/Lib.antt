@@ -6,4 +6,5 @@ mod Judging
 mod Writes
 mod Loads
 pub mod Trips
+pub mod ByRow
 pub mod Computed

@@ -1,21 +1,23 @@
--- The reader agrees with the card: `readCard` gives rows exactly where the bytes are the card of those rows, in order.
+-- The reader agrees with the card: `rowsInFront` gives the rows in front of bytes and how they end, and `readCard` gives rows exactly where the bytes are
+-- the card of those rows, in order.
 -- By induction on the rows one way, and on the rows still allowed the other way; each step is the record in front (proofs/Shape.antt).
 use mathlib.Core.Path.{_≡_, refl, sym, ap, ap₂, _∙_}
 use mathlib.Core.Logic.{_↔_}
 use mathlib.Core.Bool.{Bool, true, false, cond}
 use mathlib.Core.Option.{Option, none, some}
 use mathlib.Core.List.{List, [], _∷_, _++_, append-assoc, append-nil}
-use Prim.Native.Nat.{ℕ, zero, suc, _+_, _^_, _≤_, _<_}
+use Prim.Native.Nat.{ℕ, zero, suc, _+_, _-_, _^_, _≤_, _<_}
 use native.Mathlib.Nat.{add-zero}
 use native.Mathlib.Omega.{arith}
 use borrow.Author.Tests.{eq-eqb, le-ltb, eqb-true, ltb-false}
 use lib.Dec.{ltb, eqb}
-use lib.ListN.{length, getD, drop, drop-of-length-le}
+use lib.ListN.{length, getD, take, drop, drop-of-length-le}
+use lib.Seq.{take-append-seam}
 use Rattle.key_book.specs.Limits.{rowsMost}
 use Rattle.book_card.specs.Numbers.{Bytes}
 use Rattle.book_card.specs.Card.{Row, countSize, rowRecord, rowRecords, close, cardOf, RowFits, noRow, InOrder}
-use Rattle.book_card.specs.Reader.{keyAt, closeSize, frontOf, rowFront, onto, stepFrom, readFrom, readCard}
-use Rattle.book_card.specs.Laws.{CardSays, MalformedSays}
+use Rattle.book_card.specs.Reader.{keyAt, closeSize, frontOf, rowFront, End, closed, fault, FrontRows, ended, onto, stepFrom, frontFrom, rowsInFront, rowsBy, cardIn, readCard}
+use Rattle.book_card.specs.Laws.{FrontSays, CardSays, MalformedSays}
 use Rattle.book_card.specs.declared.Front.{Front}
 use Rattle.book_card.specs.declared.Front.the-variants.{Broken, Row as RowFront, Close}
 use Rattle.book_card.proofs.Little.{bytes-drop}
@@ -61,96 +63,161 @@ in-order-after rows o = ascends-after 0 rows (λ k h. omega arith) (o .fit) (o .
 pub after-in-order : (rows : List Row) → After 0 rows → length rows ≤ rowsMost → InOrder rows
 after-in-order rows a l = record { few = l; fit = λ k h. after-at 0 rows a k h .1; ascend = after-ascends 0 rows a }
 
--- one step of the reader, however many rows are still allowed
-unfoldable pub goOn : ℕ → ℕ → ℕ → List ℕ → Option (List Row)
-goOn zero low n s = none
-goOn (suc left) low n s = readFrom left low n s
+-- what comes of a row, however many are still allowed
+unfoldable pub goOn : ℕ → List ℕ → Row → ℕ → ℕ → List ℕ → FrontRows
+goOn zero s r l m t = ended fault s
+goOn (suc left) s r l m t = onto r (frontFrom left l m t)
 
-pub read-step : (left low n : ℕ) (s : List ℕ) → readFrom left low n s ≡ stepFrom (goOn left) low n s (frontOf s)
-unfolding readFrom goOn
-read-step zero low n s = refl
-read-step (suc left) low n s = refl
+pub front-step : (left low n : ℕ) (s : List ℕ) → frontFrom left low n s ≡ stepFrom (goOn left s) low n s (frontOf s)
+unfolding frontFrom goOn
+front-step zero low n s = refl
+front-step (suc left) low n s = refl
 
-module _ (n : ℕ) (h : n < 256 ^ countSize) where
-  reads-close : (left low : ℕ) → readFrom left low n (close n) ≡ some []
-  reads-close left low =
-      let e : frontOf (close n) ≡ Close n = ap frontOf (sym (append-nil (close n))) ∙ front-of-close n [] h in
-      read-step left low n (close n) ∙ ap (stepFrom (goOn left) low n (close n)) e ∙ rw (eq-eqb _ closeSize (close-size n), eq-eqb n n refl)
+-- rows, and what is in front of the bytes that follow them
+abbrev ahead : List Row → FrontRows → FrontRows
+ahead rows f = record { rows = rows ++ f .rows; ends = f .ends; rest = f .rest }
 
-reads : (rows : List Row) (left low n : ℕ) → After low rows → length rows ≤ left → n + length rows < 256 ^ countSize
-    → readFrom left low n (rowRecords rows ++ close (n + length rows)) ≡ some rows
-unfolding After rowRecords goOn
-reads [] left low n a l h = rw add-zero (reads-close n (omega arith) left low)
-reads (r ∷ rows) zero low n a l h = absurd (omega arith)
-reads (r ∷ rows) (suc left) low n a l h =
-    let t = rowRecords rows ++ close (n + suc (length rows)) in
-    let s = rowRecord r ++ t in
+-- the least id that may follow rows
+unfoldable lowAfter : ℕ → List Row → ℕ
+lowAfter low [] = low
+lowAfter low (r ∷ rows) = lowAfter (suc (r .id)) rows
+
+-- rows in order whose records stand in front are read, and reading goes on behind them
+reads : (rows : List Row) (left low n : ℕ) (t : List ℕ) → After low rows → length rows ≤ left
+    → frontFrom left low n (rowRecords rows ++ t) ≡ ahead rows (frontFrom (left - length rows) (lowAfter low rows) (n + length rows) t)
+unfolding After rowRecords goOn lowAfter
+reads [] left low n t a l =
+    let z : left ≡ left - 0 = omega arith in
+    ap₂ (λ (x y : ℕ). frontFrom x low y t) z (sym (add-zero n))
+reads (r ∷ rows) zero low n t a l = absurd (omega arith)
+reads (r ∷ rows) (suc left) low n t a l =
+    let u = rowRecords rows ++ t in
+    let s = rowRecord r ++ u in
     let f = a .1 .0 in
     let e : suc n + length rows ≡ n + suc (length rows) = omega arith in
-    let ih : readFrom left (suc (r .id)) (suc n) t ≡ some rows =
-    ap (λ (m : ℕ). readFrom left (suc (r .id)) (suc n) (rowRecords rows ++ close m)) (sym e) ∙ reads rows left (suc (r .id)) (suc n) (a .1 .1) (omega arith) (omega arith) in
-    ap (readFrom (suc left) low n) (append-assoc (rowRecord r) (rowRecords rows) (close (n + suc (length rows))))
-    ∙ read-step (suc left) low n s ∙ ap (stepFrom (goOn (suc left)) low n s) (front-of-row r t f)
-    ∙ ap (λ (b : Bool). cond b none (onto (rowFront s (length (r .key))) (readFrom left (suc (r .id)) (suc n) (drop (keyAt + length (r .key)) s)))) (le-ltb (r .id) low (a .0))
-    ∙ ap₂ (λ (q : Row) (l : List ℕ). onto q (readFrom left (suc (r .id)) (suc n) l)) (row-of-front r t f) (row-read r t f .rest)
-    ∙ ap (onto r) ih
+    let d : left - length rows ≡ suc left - suc (length rows) = omega arith in
+    ap (frontFrom (suc left) low n) (append-assoc (rowRecord r) (rowRecords rows) t)
+    ∙ front-step (suc left) low n s ∙ ap (stepFrom (goOn (suc left) s) low n s) (front-of-row r u f)
+    ∙ ap (λ (b : Bool). cond b (ended fault s) (onto (rowFront s (length (r .key))) (frontFrom left (suc (r .id)) (suc n) (drop (keyAt + length (r .key)) s)))) (le-ltb (r .id) low (a .0))
+    ∙ ap₂ (λ (q : Row) (l : List ℕ). onto q (frontFrom left (suc (r .id)) (suc n) l)) (row-of-front r u f) (row-read r u f .rest)
+    ∙ ap (onto r) (reads rows left (suc (r .id)) (suc n) t (a .1 .1) (omega arith))
+    ∙ ap₂ (λ (x y : ℕ). ahead (r ∷ rows) (frontFrom x (lowAfter (suc (r .id)) rows) y t)) d e
 
--- what the reader gives is fewer rows than `bound`, in order, and the bytes are their card
-Good : ℕ → ℕ → ℕ → List ℕ → Option (List Row) → Type 0
-Good bound low n s none = Unit {0}
-Good bound low n s (some rows) = After low rows × ((length rows < bound) × (s ≡ rowRecords rows ++ close (n + length rows)))
+reads-close : (left low n : ℕ) → n < 256 ^ countSize → frontFrom left low n (close n) ≡ ended closed (close n)
+reads-close left low n h =
+    let e : frontOf (close n) ≡ Close n = ap frontOf (sym (append-nil (close n))) ∙ front-of-close n [] h in
+    front-step left low n (close n) ∙ ap (stepFrom (goOn left (close n)) low n (close n)) e ∙ rw (eq-eqb _ closeSize (close-size n), eq-eqb n n refl)
+
+-- the rows of a card stand in front of it and end closed
+reads-card : (rows : List Row) → InOrder rows → rowsInFront (cardOf rows) ≡ record { rows = rows; ends = closed; rest = close (length rows) }
+unfolding rowsInFront cardOf
+reads-card rows o =
+    let f = o .few in
+    let z : 0 + length rows ≡ length rows = omega arith in
+    reads rows rowsMost 0 0 (close (length rows)) (in-order-after rows o) f
+    ∙ ap (ahead rows) (ap (λ (n : ℕ). frontFrom (rowsMost - length rows) (lowAfter 0 rows) n (close (length rows))) z ∙ reads-close (rowsMost - length rows) (lowAfter 0 rows) (length rows) (omega arith))
+    ∙ ap (λ (x : List Row). record { rows = x; ends = closed; rest = close (length rows) }) (append-nil rows)
+
+-- what the reader gives: at most `left` rows, in order, whose records the bytes begin with; behind them the close where they end closed
+record Good (left low n : ℕ) (s : List ℕ) (f : FrontRows) : Type 0 where
+  pub ordered : After low (f .rows)
+  pub few : length (f .rows) ≤ left
+  pub bytes : s ≡ rowRecords (f .rows) ++ f .rest
+  pub closes : f .ends ≡ closed → f .rest ≡ close (n + length (f .rows))
+
+good-fault : (left low n : ℕ) (s : List ℕ) → Good left low n s (ended fault s)
+unfolding After rowRecords
+good-fault left low n s = record { ordered = tt; few = omega arith; bytes = refl; closes = λ e. absurd (let z : _≡_ {A = ℕ} 0 1 = cc in omega arith) }
+
+good-closed : (left low n m : ℕ) (s : List ℕ) → GoodClose s m → length s ≡ closeSize → m ≡ n → Good left low n s (ended closed s)
+unfolding After rowRecords
+good-closed left low n m s g e q =
+    let l : length s ≤ closeSize = omega arith in
+    record {
+      ordered = tt;
+      few = omega arith;
+      bytes = refl;
+      closes = λ _. g .bytes ∙ ap₂ (λ (x : ℕ) (r : List ℕ). close x ++ r) q (drop-of-length-le s l) ∙ append-nil (close n) ∙ ap close (sym (add-zero n));
+    }
+
+good-onto : (left low n id size : ℕ) (s : List ℕ) (f : FrontRows) → low ≤ id → GoodRow s id size → Good left (suc id) (suc n) (drop (keyAt + size) s) f
+    → Good (suc left) low n s (onto (rowFront s size) f)
+unfolding After rowRecords
+good-onto left low n id size s f l g a =
+    let r = rowFront s size in
+    let t = a .few in
+    let e : suc n + length (f .rows) ≡ n + suc (length (f .rows)) = omega arith in
+    record {
+      ordered = (rw (g .named) l, (g .fits, rw (g .named) (a .ordered)));
+      few = omega arith;
+      bytes = g .bytes ∙ ap (λ (x : List ℕ). rowRecord r ++ x) (a .bytes) ∙ sym (append-assoc (rowRecord r) (rowRecords (f .rows)) (f .rest));
+      closes = λ c. a .closes c ∙ ap close e;
+    }
 
 module _ (left low n : ℕ) (s : List ℕ) where
-  good-close : (m : ℕ) → GoodClose s m → (t : Bool) → eqb (length s) closeSize ≡ t → (u : Bool) → eqb m n ≡ u → Good (suc left) low n s (cond t (cond u (some []) none) none)
-  unfolding Good After rowRecords
-  good-close m g false p u q = tt
-  good-close m g true p false q = tt
-  good-close m g true p true q =
-      let e : length s ≡ closeSize = eqb-true (length s) closeSize p in
-      let l : length s ≤ closeSize = omega arith in (
-        tt,
-        (omega arith, g .bytes ∙ ap₂ (λ (x : ℕ) (r : List ℕ). close x ++ r) (eqb-true m n q) (drop-of-length-le s l) ∙ append-nil (close n) ∙ ap close (sym (add-zero n))),
-      )
+  good-step : ((id size : ℕ) → low ≤ id → GoodRow s id size → Good left low n s (goOn left s (rowFront s size) (suc id) (suc n) (drop (keyAt + size) s)))
+      → (f : Front) → FrontGood s f → Good left low n s (stepFrom (goOn left s) low n s f)
+  unfolding FrontGood
+  good-step ih Broken g = good-fault left low n s
+  good-step ih (Close m) g = on (eqb (length s) closeSize) refl (eqb m n) refl
+    where
+      on : (t : Bool) → eqb (length s) closeSize ≡ t → (u : Bool) → eqb m n ≡ u → Good left low n s (cond t (cond u (ended closed s) (ended fault s)) (ended fault s))
+      on false p u q = good-fault left low n s
+      on true p false q = good-fault left low n s
+      on true p true q = good-closed left low n m s g (eqb-true (length s) closeSize p) (eqb-true m n q)
+  good-step ih (RowFront id size) g = on (ltb id low) refl
+    where
+      on : (t : Bool) → ltb id low ≡ t → Good left low n s (cond t (ended fault s) (goOn left s (rowFront s size) (suc id) (suc n) (drop (keyAt + size) s)))
+      on true p = good-fault left low n s
+      on false p = ih id size (ltb-false id low p) g
 
-  module _ (id size : ℕ) (g : GoodRow s id size) where
-    good-onto : low ≤ id → (o : Option (List Row)) → Good left (suc id) (suc n) (drop (keyAt + size) s) o → Good (suc left) low n s (onto (rowFront s size) o)
-    unfolding Good After rowRecords
-    good-onto l none a = tt
-    good-onto l (some rows) a =
-        let r = rowFront s size in
-        let t = a .1 .0 in
-        let e : suc n + length rows ≡ n + suc (length rows) = omega arith in (
-          (rw (g .named) l, (g .fits, rw (g .named) (a .0))),
-          (omega arith, g .bytes ∙ ap (λ (x : List ℕ). rowRecord r ++ x) (a .1 .1 ∙ ap (λ (m : ℕ). rowRecords rows ++ close m) e) ∙ sym (append-assoc (rowRecord r) (rowRecords rows) (close (n + suc (length rows))))),
-        )
+good : (left low n : ℕ) (s : List ℕ) → Bytes s → Good left low n s (frontFrom left low n s)
+unfolding goOn
+good zero low n s h = rw (front-step zero low n s) (good-step zero low n s (λ id size l g. good-fault zero low n s) (frontOf s) (front-good s h))
+good (suc left) low n s h =
+    rw (front-step (suc left) low n s)
+    (good-step (suc left) low n s
+    (λ id size l g. good-onto left low n id size s _ l g (good left (suc id) (suc n) (drop (keyAt + size) s) (bytes-drop s h (keyAt + size))))
+    (frontOf s) (front-good s h))
 
-    good-row : (o : Option (List Row)) → Good left (suc id) (suc n) (drop (keyAt + size) s) o → (t : Bool) → ltb id low ≡ t → Good (suc left) low n s (cond t none (onto (rowFront s size) o))
-    unfolding Good
-    good-row o a true p = tt
-    good-row o a false p = good-onto (ltb-false id low p) o a
+pub front-says : FrontSays
+unfolding rowsInFront cardOf
+front-says s h =
+    let f = rowsInFront s in
+    let g = good rowsMost 0 0 s h in
+    let o = after-in-order (f .rows) (g .ordered) (g .few) in
+    let z : 0 + length (f .rows) ≡ length (f .rows) = omega arith in
+    record {
+      order = o;
+      bytes = g .bytes;
+      most = λ rows rest p e.
+          let q = reads rows rowsMost 0 0 rest (in-order-after rows p) (p .few) in
+          sym (ap (λ (x : List ℕ). take (length rows) (rowsInFront x .rows)) e ∙ ap (λ (x : FrontRows). take (length rows) (x .rows)) q ∙ take-append-seam rows _);
+      ends-closed = (
+        λ c. g .bytes ∙ ap (λ (x : List ℕ). rowRecords (f .rows) ++ x) (g .closes c ∙ ap close z),
+        λ e. ap (λ (x : List ℕ). rowsInFront x .ends) e ∙ ap (λ (x : FrontRows). x .ends) (reads-card (f .rows) o),
+      );
+    }
 
-  good-step : ((l m : ℕ) (t : List ℕ) → Bytes t → Good left l m t (goOn left l m t)) → Bytes s → (f : Front) → FrontGood s f → Good (suc left) low n s (stepFrom (goOn left) low n s f)
-  unfolding Good FrontGood
-  good-step ih h Broken g = tt
-  good-step ih h (Close m) g = good-close m g _ refl _ refl
-  good-step ih h (RowFront id size) g = good-row id size g (goOn left (suc id) (suc n) (drop (keyAt + size) s)) (ih (suc id) (suc n) (drop (keyAt + size) s) (bytes-drop s h (keyAt + size))) _ refl
+-- the rows of a card are those in front, ended closed
+pub record Closed (f : FrontRows) (rows : List Row) : Type 0 where
+  pub those : f .rows ≡ rows
+  pub ended-closed : f .ends ≡ closed
 
-good : (left low n : ℕ) (s : List ℕ) → Bytes s → Good (suc left) low n s (readFrom left low n s)
-unfolding goOn Good
-good zero low n s h = rw (read-step zero low n s) (good-step zero low n s (λ l m t k. tt) h (frontOf s) (front-good s h))
-good (suc left) low n s h = rw (read-step (suc left) low n s) (good-step (suc left) low n s (λ l m t k. good left l m t k) h (frontOf s) (front-good s h))
+card-closed : (f : FrontRows) (rows : List Row) → cardIn f ≡ some rows → Closed f rows
+card-closed f rows e = on (f .ends) refl e
+  where
+    on : (x : End) → f .ends ≡ x → rowsBy (f .rows) x ≡ some rows → Closed f rows
+    on closed p q = record { those = cc; ended-closed = p }
+    on fault p q = absurd (let z : _≡_ {A = ℕ} 0 1 = cc in omega arith)
 
 pub card-says : CardSays
-unfolding readCard cardOf Good
+unfolding readCard
 card-says s h rows = (
-  λ e. let g : Good (suc rowsMost) 0 0 s (some rows) = rw e at (good rowsMost 0 0 s h) in
-      let l = g .1 .0 in
-      let z : 0 + length rows ≡ length rows = omega arith in
-      (after-in-order rows (g .0) (omega arith), g .1 .1 ∙ ap (λ (m : ℕ). rowRecords rows ++ close m) z),
-  λ c. let o = c .0 in
-      let f = o .few in
-      let z : length rows ≡ 0 + length rows = omega arith in
-      ap (readFrom rowsMost 0 0) (c .1 ∙ ap (λ (m : ℕ). rowRecords rows ++ close m) z) ∙ reads rows rowsMost 0 0 (in-order-after rows o) f (omega arith),
+  λ e. let c = card-closed (rowsInFront s) rows e in
+      let f = front-says s h in
+      (rw (← c .those) (f .order), f .ends-closed .0 (c .ended-closed) ∙ ap cardOf (c .those)),
+  λ c. ap (λ (x : List ℕ). cardIn (rowsInFront x)) (c .1) ∙ ap cardIn (reads-card rows (c .0)),
 )
 
 pub malformed-says : MalformedSays

@@ -152,7 +152,7 @@ unfolding After rowRecords
 records-bytes low [] a = λ i. omega arith
 records-bytes low (r ∷ rows) a = bytes-append (rowRecord r) (rowRecords rows) (row-bytes r (a .1 .0 .key-bytes)) (records-bytes (suc (r .id)) rows (a .1 .1))
 
-card-bytes : (rows : List Row) → InOrder rows → Bytes (cardOf rows)
+pub card-bytes : (rows : List Row) → InOrder rows → Bytes (cardOf rows)
 unfolding cardOf close
 card-bytes rows o =
     bytes-append (rowRecords rows) (close (length rows)) (records-bytes 0 rows (in-order-after rows o)) (record-bytes closeKind (le countSize (length rows)) (bytes-le countSize (length rows)))
@@ -217,11 +217,11 @@ rows-held c i l s r n (x ∷ rows) f k h =
       sent = there-next (c .sent) k _ _ (h .sent);
     }))
 
-laid-length : (xs old : List ℕ) → length xs ≤ length old → length (laid xs old) ≡ length old
+pub laid-length : (xs old : List ℕ) → length xs ≤ length old → length (laid xs old) ≡ length old
 unfolding laid
 laid-length xs old h = length-append xs (drop (length xs) old) ∙ ap (λ (n : ℕ). length xs + n) (length-drop (length xs) old) ∙ omega arith
 
-laid-at : (f : Row → ℕ) → f noRow ≡ 0 → (rows : List Row) (old : List ℕ) (k : ℕ) → k < length rows → getD (laid (map f rows) old) k 0 ≡ f (getD rows k noRow)
+pub laid-at : (f : Row → ℕ) → f noRow ≡ 0 → (rows : List Row) (old : List ℕ) (k : ℕ) → k < length rows → getD (laid (map f rows) old) k 0 ≡ f (getD rows k noRow)
 unfolding laid
 laid-at f z rows old k h =
     List·getD-append (map f rows) (drop (length (map f rows)) old) 0 k (rw (length-map rows f) h) ∙ ap (getD (map f rows) k) (sym z) ∙ List·getD-map f rows k noRow
@@ -274,11 +274,11 @@ module _ (b : Book) (s : Sound b) (room : List ℕ) (h : length (cardOf (rowsOf 
 
 -- reading a card of rows in order into a book with room for them
 module _ (b : Book) (z : Sized b) (card : List ℕ) (rows : List Row) (e : readCard card ≡ some rows) (room : length rows ≤ length (b .ids)) where
-  gives : readOf b card ≡ Rows (length rows)
+  pub gives : readOf b card ≡ Rows (length rows)
   unfolding readOf
   gives = rw (sized-says b .1 z, e, le-ltb (length (b .ids)) (length rows) room)
 
-  gives-book : readBook b card ≡ loaded b rows
+  pub gives-book : readBook b card ≡ loaded b rows
   unfolding readBook rowsIn
   gives-book = ap (readBy b card) gives ∙ ap (λ (o : Option (List Row)). loaded b (Option·getD o [])) e
 
@@ -297,7 +297,7 @@ write-then-read b l s room h into z r =
     }
 
 -- what an answer that gives rows says
-record Given (b : Book) (card : List ℕ) : Type 0 where
+pub record Given (b : Book) (card : List ℕ) : Type 0 where
   pub rows : List Row
   pub reads : readCard card ≡ some rows
   pub sizes : Sized b
@@ -316,7 +316,7 @@ module _ (b : Book) (card : List ℕ) (n : ℕ) where
   given-sizes true s g = given-card (readCard card) refl (sized-says b .0 s) g
   given-sizes false s g = absurd (let z : _≡_ {A = ℕ} 0 1 = cc in omega arith)
 
-  given : readOf b card ≡ Rows n → Given b card
+  pub given : readOf b card ≡ Rows n → Given b card
   unfolding readOf
   given g = given-sizes (sized b) refl g
 

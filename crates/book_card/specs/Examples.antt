@@ -1,14 +1,14 @@
--- Document 01, bench examples 1 and 2, over the definitions. Example 10 is in key_book.
+-- Document 01, bench examples 1 and 2, over the definitions (example 10 is in key_book), and a card whose bytes are all different where they may be.
 use mathlib.Core.Path.{_≡_}
 use mathlib.Core.Option.{none, some}
 use mathlib.Core.List.{List, [], _∷_, _++_}
 use Prim.Native.Nat.{ℕ}
-use lib.ListN.{length, replicate}
+use lib.ListN.{length, take, drop, replicate}
 use Rattle.refusal.specs.Number.{numberOf}
 use Rattle.refusal.specs.declared.Refusal.the-variants.{MalformedCard}
 use Rattle.key_book.specs.Book.{Book, bookOf}
-use Rattle.book_card.specs.Card.{cardOf}
-use Rattle.book_card.specs.Reader.{readCard}
+use Rattle.book_card.specs.Card.{Row, cardOf}
+use Rattle.book_card.specs.Reader.{closed, fault, rowsInFront, readCard}
 use Rattle.book_card.specs.Reading.{readOf, readBook}
 use Rattle.book_card.specs.Writing.{rowsOf, writeOf, written}
 use Rattle.book_card.specs.declared.ReadAnswer.the-variants.{Refused, Rows}
@@ -27,13 +27,40 @@ cardB =
     0x1A ∷ 0x00 ∷ 0x01 ∷ 0x00 ∷ 0x07 ∷ 0x00 ∷ 0x00 ∷ 0x00 ∷ 0x0A ∷ 0x00 ∷ 0x00 ∷ 0x00 ∷ 0x00 ∷ 0x00 ∷ 0x00 ∷ 0x00 ∷ 0x03 ∷ 0x00 ∷ 0x00 ∷ 0x00
     ∷ 0x00 ∷ 0x00 ∷ 0x00 ∷ 0x00 ∷ 0x01 ∷ 0x02 ∷ 0x03 ∷ 0x04 ∷ 0x04 ∷ 0x00 ∷ 0x02 ∷ 0x00 ∷ 0x01 ∷ 0x00 ∷ []
 
+-- a room for two rows with something in both: ids, key lengths and counters, and slots in which every byte is set
+abbrev pub fullRoom : Book
+fullRoom =
+    bookOf (5 ∷ 9 ∷ []) (2 ∷ 3 ∷ []) (replicate 64 0xEE ++ (0x21 ∷ 0x22 ∷ 0x23 ∷ replicate 61 0xFF)) (11 ∷ 12 ∷ []) (13 ∷ 14 ∷ []) 2
+
+-- the same room with book B in it: the first row is B's with zeros after its key, the second is as it was
+abbrev pub roomWithB : Book
+roomWithB =
+    bookOf (7 ∷ 9 ∷ []) (4 ∷ 3 ∷ []) (1 ∷ 2 ∷ 3 ∷ 4 ∷ (replicate 60 0 ++ (0x21 ∷ 0x22 ∷ 0x23 ∷ replicate 61 0xFF))) (10 ∷ 12 ∷ []) (3 ∷ 14 ∷ []) 1
+
 pub record Example1 : Type 0 where
   pub card : cardOf (rowsOf bookB) ≡ cardB
   pub size : length cardB ≡ 34
   pub written-size : writeOf bookB 34 ≡ Size 34
   pub written-bytes : written bookB (replicate 34 0) ≡ cardB
-  pub read-back : readOf emptyRoom cardB ≡ Rows 1
-  pub read-book : readBook emptyRoom cardB ≡ bookB
+  pub read-back : readOf fullRoom cardB ≡ Rows 1
+  pub read-book : readBook fullRoom cardB ≡ roomWithB
+
+-- a row in which no byte of the id and the counters is another's: the order of the fields and of the bytes in each
+abbrev pub orderedRow : Row
+orderedRow = record { id = 0x13121110; received = 0x2726252423222120; sent = 0x3736353433323130; key = 0x41 ∷ 0x40 ∷ [] }
+
+abbrev pub orderedCard : List ℕ
+orderedCard =
+    0x18 ∷ 0x00 ∷ 0x01 ∷ 0x00 ∷ 0x10 ∷ 0x11 ∷ 0x12 ∷ 0x13 ∷ 0x20 ∷ 0x21 ∷ 0x22 ∷ 0x23 ∷ 0x24 ∷ 0x25 ∷ 0x26 ∷ 0x27 ∷ 0x30 ∷ 0x31 ∷ 0x32 ∷ 0x33
+    ∷ 0x34 ∷ 0x35 ∷ 0x36 ∷ 0x37 ∷ 0x41 ∷ 0x40 ∷ 0x04 ∷ 0x00 ∷ 0x02 ∷ 0x00 ∷ 0x01 ∷ 0x00 ∷ []
+
+-- document 01, 'The card': the fields in their order, each number little-endian; and the rows in front of a card that is cut or goes on
+pub record OrderedBytes : Type 0 where
+  pub card : cardOf (orderedRow ∷ []) ≡ orderedCard
+  pub rows : readCard orderedCard ≡ some (orderedRow ∷ [])
+  pub whole : rowsInFront orderedCard ≡ record { rows = orderedRow ∷ []; ends = closed; rest = 0x04 ∷ 0x00 ∷ 0x02 ∷ 0x00 ∷ 0x01 ∷ 0x00 ∷ [] }
+  pub cut : rowsInFront (take 31 orderedCard) ≡ record { rows = orderedRow ∷ []; ends = fault; rest = 0x04 ∷ 0x00 ∷ 0x02 ∷ 0x00 ∷ 0x01 ∷ [] }
+  pub twice : rowsInFront (orderedCard ++ orderedCard) ≡ record { rows = orderedRow ∷ []; ends = fault; rest = drop 26 orderedCard ++ orderedCard }
 
 abbrev pub emptyCard : List ℕ
 emptyCard = 0x04 ∷ 0x00 ∷ 0x02 ∷ 0x00 ∷ 0x00 ∷ 0x00 ∷ []

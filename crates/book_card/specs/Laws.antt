@@ -1,4 +1,5 @@
--- What is proved of cards, each as a closed statement: document 01, 'The card'. The proofs are in proofs/Says.antt and proofs/Trips.antt.
+-- What is proved of cards, each as a closed statement: document 01, 'The card'. The proofs are in proofs/Says.antt, proofs/Trips.antt and
+-- proofs/ByRow.antt.
 use mathlib.Core.Path.{_≡_}
 use mathlib.Core.Logic.{_↔_}
 use mathlib.Core.Option.{none, some}
@@ -9,12 +10,23 @@ use Rattle.key_book.specs.Limits.{rowsMost, slotSize}
 use Rattle.key_book.specs.Book.{Book, Lent, Sized, Sound}
 use Rattle.key_book.specs.Laws.{SameKey}
 use Rattle.book_card.specs.Numbers.{Bytes}
-use Rattle.book_card.specs.Card.{Row, InOrder, cardOf}
-use Rattle.book_card.specs.Reader.{keyAt, closeSize, readCard}
+use Rattle.book_card.specs.Card.{Row, rowRecords, noRow, InOrder, cardOf}
+use Rattle.book_card.specs.Reader.{keyAt, closeSize, closed, FrontRows, rowsInFront, readCard}
 use Rattle.book_card.specs.Reading.{readOf, readBook}
 use Rattle.book_card.specs.Writing.{rowsOf, writeOf, written}
 use Rattle.book_card.specs.declared.ReadAnswer.the-variants.{Rows}
 use Rattle.book_card.specs.declared.WriteAnswer.the-variants.{Size}
+
+-- the rows in front of bytes: they are in order, the bytes begin with their records, any rows in order whose records the bytes begin with are the
+-- first of them, and they end closed exactly where the bytes are their card
+pub record InFront (s : List ℕ) (f : FrontRows) : Type 0 where
+  pub order : InOrder (f .rows)
+  pub bytes : s ≡ rowRecords (f .rows) ++ f .rest
+  pub most : (rows : List Row) (rest : List ℕ) → InOrder rows → s ≡ rowRecords rows ++ rest → rows ≡ take (length rows) (f .rows)
+  pub ends-closed : (f .ends ≡ closed) ↔ (s ≡ cardOf (f .rows))
+
+abbrev pub FrontSays : Type 0
+FrontSays = (s : List ℕ) → Bytes s → InFront s (rowsInFront s)
 
 -- the reader finds rows exactly where the bytes are the card of those rows, in order
 abbrev pub CardSays : Type 0
@@ -38,6 +50,39 @@ pub record LargestCard : Type 0 where
   pub reached : length (cardOf (fullRows 0 rowsMost)) ≡ cardMost
   pub reached-in-order : InOrder (fullRows 0 rowsMost)
   pub bytes : cardMost ≡ 5638
+
+-- row k of a book is a card's row: its id, its key's size and its counters, and in its slot the key with zeros after it
+pub record RowSet (c : Book) (k : ℕ) (r : Row) : Type 0 where
+  pub id : getD (c .ids) k 0 ≡ r .id
+  pub key-size : getD (c .lengths) k 0 ≡ length (r .key)
+  pub received : getD (c .received) k 0 ≡ r .received
+  pub sent : getD (c .sent) k 0 ≡ r .sent
+  pub key : (i : ℕ) → i < length (r .key) → getD (c .store) (slotSize * k + i) 0 ≡ getD (r .key) i 0
+  pub zeros : (i : ℕ) → length (r .key) ≤ i → i < slotSize → getD (c .store) (slotSize * k + i) 0 ≡ 0
+
+-- a list from its element n on is as it was, and no longer or shorter
+pub record LeftFrom (n : ℕ) (before after : List ℕ) : Type 0 where
+  pub same : (k : ℕ) → n ≤ k → getD after k 0 ≡ getD before k 0
+  pub long : length after ≡ length before
+
+-- the rows of a book from row n on are as they were, in each lent thing
+pub record RowsLeft (n : ℕ) (b c : Book) : Type 0 where
+  pub ids : LeftFrom n (b .ids) (c .ids)
+  pub lengths : LeftFrom n (b .lengths) (c .lengths)
+  pub store : LeftFrom (slotSize * n) (b .store) (c .store)
+  pub received : LeftFrom n (b .received) (c .received)
+  pub sent : LeftFrom n (b .sent) (c .sent)
+
+-- what reading the card of rows leaves of a book, where n rows were given back: each row of the card, and further rows as they were
+pub record RowsRead (b : Book) (rows : List Row) (n : ℕ) (c : Book) : Type 0 where
+  pub count : n ≡ length rows
+  pub in-use : c .rows ≡ n
+  pub set : (k : ℕ) → k < n → RowSet c k (getD rows k noRow)
+  pub left : RowsLeft n b c
+
+abbrev pub ReadSays : Type 0
+ReadSays =
+    (b : Book) (card : List ℕ) (n : ℕ) → readOf b card ≡ Rows n → (rows : List Row) → InOrder rows → card ≡ cardOf rows → RowsRead b rows n (readBook b card)
 
 -- write a sound book's card, and read those bytes into any room for its rows: the same ids, keys and counters
 pub record WrittenRead (b : Book) (room : List ℕ) (into : Book) : Type 0 where

@@ -1,4 +1,4 @@
--- The reader of a card, computed: what record stands in front, and the rows of a whole card.
+-- The reader of a card, computed: what record stands in front, the rows in front and how they end, and the rows of a whole card.
 -- What it means is in specs/Card.antt; that it agrees is stated in specs/Laws.antt.
 use mathlib.Core.Bool.{cond}
 use mathlib.Core.Option.{Option, none, some}
@@ -53,24 +53,50 @@ abbrev pub rowFront : List ℕ → ℕ → Row
 rowFront s size =
     record { id = numberAt s bodyAt idSize; received = numberAt s receivedAt counterSize; sent = numberAt s sentAt counterSize; key = take size (drop keyAt s) }
 
-abbrev pub onto : Row → Option (List Row) → Option (List Row)
-onto r none = none
-onto r (some rows) = some (r ∷ rows)
+-- how the rows in front of bytes end: the close follows them, numbers them and is last; or anything else stands there
+pub data End : Type 0 where
+  closed : End
+  fault : End
 
--- one step of reading: `low` is the least id that may follow, `n` the rows before; `go` reads what follows a row
-abbrev pub stepFrom : (ℕ → ℕ → List ℕ → Option (List Row)) → ℕ → ℕ → List ℕ → Front → Option (List Row)
-stepFrom go low n s Broken = none
-stepFrom go low n s (Close m) = cond (eqb (length s) closeSize) (cond (eqb m n) (some []) none) none
-stepFrom go low n s (RowFront id size) = cond (ltb id low) none (onto (rowFront s size) (go (suc id) (suc n) (drop (keyAt + size) s)))
+-- the rows in front of bytes, how they end, and the bytes that follow them
+pub record FrontRows : Type 0 where
+  pub rows : List Row
+  pub ends : End
+  pub rest : List ℕ
+
+-- no row in front
+abbrev pub ended : End → List ℕ → FrontRows
+ended e s = record { rows = []; ends = e; rest = s }
+
+abbrev pub onto : Row → FrontRows → FrontRows
+onto r f = record { rows = r ∷ f .rows; ends = f .ends; rest = f .rest }
+
+-- one step of reading: `low` is the least id that may follow, `n` the rows before; `go` is what comes of a row and of what follows it
+abbrev pub stepFrom : (Row → ℕ → ℕ → List ℕ → FrontRows) → ℕ → ℕ → List ℕ → Front → FrontRows
+stepFrom go low n s Broken = ended fault s
+stepFrom go low n s (Close m) = cond (eqb (length s) closeSize) (cond (eqb m n) (ended closed s) (ended fault s)) (ended fault s)
+stepFrom go low n s (RowFront id size) = cond (ltb id low) (ended fault s) (go (rowFront s size) (suc id) (suc n) (drop (keyAt + size) s))
 
 -- what follows, where at most `left` rows may
-unfoldable pub readFrom : ℕ → ℕ → ℕ → List ℕ → Option (List Row)
-readFrom zero low n s = stepFrom (λ _ _ _. none) low n s (frontOf s)
-readFrom (suc left) low n s = stepFrom (readFrom left) low n s (frontOf s)
+unfoldable pub frontFrom : ℕ → ℕ → ℕ → List ℕ → FrontRows
+frontFrom zero low n s = stepFrom (λ _ _ _ _. ended fault s) low n s (frontOf s)
+frontFrom (suc left) low n s = stepFrom (λ r l m t. onto r (frontFrom left l m t)) low n s (frontOf s)
+
+-- the rows in front of a byte string that is to be a card
+unfoldable pub rowsInFront : List ℕ → FrontRows
+rowsInFront s = frontFrom rowsMost 0 0 s
+
+-- the rows of a card, by the rows in front and how they end
+abbrev pub rowsBy : List Row → End → Option (List Row)
+rowsBy rows closed = some rows
+rowsBy rows fault = none
+
+abbrev pub cardIn : FrontRows → Option (List Row)
+cardIn f = rowsBy (f .rows) (f .ends)
 
 -- the rows of a card, where the bytes are one
 unfoldable pub readCard : List ℕ → Option (List Row)
-readCard s = readFrom rowsMost 0 0 s
+readCard s = cardIn (rowsInFront s)
 
 -- the answer of the first pass, begun with n rows
 abbrev pub countedFrom : ℕ → Option (List Row) → Judged

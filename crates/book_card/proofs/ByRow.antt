@@ -1,0 +1,99 @@
+-- Reading a card row by row (specs/Laws.antt, `ReadSays`): each list of the book read is the card's elements laid over the old ones, and a row's slot
+-- stands in the slots laid over the key store.
+use mathlib.Core.Path.{_≡_, refl, sym, ap, _∙_}
+use mathlib.Core.Option.{some}
+use mathlib.Core.List.{List, _++_, map}
+use Prim.Native.Nat.{ℕ, suc, _+_, _-_, _*_, _≤_, _<_}
+use native.Mathlib.Omega.{arith}
+use lib.ListN.{length, getD, drop, replicate, length-append, length-replicate, length-map, List·getD-append, getD-replicate}
+use lib.Seq.{getD-drop, getD-append-add}
+use Rattle.key_book.specs.Limits.{slotSize}
+use Rattle.key_book.specs.Book.{Book, Sized}
+use Rattle.book_card.specs.Card.{Row, cardOf, noRow, InOrder}
+use Rattle.book_card.specs.Reader.{readCard}
+use Rattle.book_card.specs.Reading.{slotOf, slotsOf, laid, loaded, readBook}
+use Rattle.book_card.specs.Laws.{RowSet, LeftFrom, RowsLeft, RowsRead, ReadSays}
+use Rattle.book_card.proofs.Says.{card-says}
+use Rattle.book_card.proofs.Loads.{Fit, slot-length, slots-length, slots-at}
+use Rattle.book_card.proofs.Trips.{card-bytes, laid-length, laid-at, given, gives, gives-book}
+
+-- an element past those laid over a list is the old one
+laid-left : (xs old : List ℕ) (n : ℕ) → length xs ≡ n → length xs ≤ length old → LeftFrom n old (laid xs old)
+unfolding laid
+laid-left xs old n e h =
+    record {
+      same = λ k l.
+          let d : length xs + (k - length xs) ≡ k = omega arith in
+          ap (λ (m : ℕ). getD (xs ++ drop (length xs) old) m 0) (sym d) ∙ getD-append-add xs (drop (length xs) old) (k - length xs) 0
+          ∙ getD-drop (length xs) old (k - length xs) 0 ∙ ap (λ (m : ℕ). getD old m 0) d;
+      long = laid-length xs old h;
+    }
+
+-- byte i of row k's slot, in the slots laid over a key store
+slot-at : (rows : List Row) (old : List ℕ) (k i : ℕ) → Fit rows → k < length rows → i < slotSize
+    → getD (laid (slotsOf rows) old) (slotSize * k + i) 0 ≡ getD (slotOf (getD rows k noRow .key)) i 0
+unfolding laid
+slot-at rows old k i f h l =
+    let slot = slotOf (getD rows k noRow .key) in
+    let z = slot-length (getD rows k noRow .key) (f k h) in
+    let s = slots-length rows f in
+    List·getD-append (slotsOf rows) (drop (length (slotsOf rows)) old) 0 (slotSize * k + i) (omega arith)
+    ∙ sym (getD-drop (slotSize * k) (slotsOf rows) i 0) ∙ ap (λ (x : List ℕ). getD x i 0) (slots-at rows k f h)
+    ∙ List·getD-append slot (drop (slotSize * suc k) (slotsOf rows)) 0 i (omega arith)
+
+-- a slot's bytes: the key, and zeros after it
+slot-key : (key : List ℕ) (i : ℕ) → i < length key → getD (slotOf key) i 0 ≡ getD key i 0
+unfolding slotOf
+slot-key key i h = List·getD-append key (replicate (slotSize - length key) 0) 0 i h
+
+slot-zeros : (key : List ℕ) (i : ℕ) → length key ≤ i → i < slotSize → getD (slotOf key) i 0 ≡ 0
+unfolding slotOf
+slot-zeros key i h l =
+    let d : length key + (i - length key) ≡ i = omega arith in
+    ap (λ (m : ℕ). getD (key ++ replicate (slotSize - length key) 0) m 0) (sym d) ∙ getD-append-add key (replicate (slotSize - length key) 0) (i - length key) 0
+    ∙ getD-replicate (slotSize - length key) (i - length key) 0 0 (omega arith)
+
+module _ (b : Book) (z : Sized b) (rows : List Row) (o : InOrder rows) (room : length rows ≤ length (b .ids)) where
+  fit : Fit rows
+  fit k h = o .fit k h .key-to
+
+  row-set : (k : ℕ) → k < length rows → RowSet (loaded b rows) k (getD rows k noRow)
+  unfolding loaded
+  row-set k h =
+      let key = getD rows k noRow .key in
+      let t = fit k h in
+      record {
+        id = laid-at (λ (r : Row). r .id) refl rows (b .ids) k h;
+        key-size = laid-at (λ (r : Row). length (r .key)) refl rows (b .lengths) k h;
+        received = laid-at (λ (r : Row). r .received) refl rows (b .received) k h;
+        sent = laid-at (λ (r : Row). r .sent) refl rows (b .sent) k h;
+        key = λ i l. slot-at rows (b .store) k i fit h (omega arith) ∙ slot-key key i l;
+        zeros = λ i l m. slot-at rows (b .store) k i fit h m ∙ slot-zeros key i l m;
+      }
+
+  rows-left : RowsLeft (length rows) b (loaded b rows)
+  unfolding loaded
+  rows-left =
+      let one : (f : Row → ℕ) (old : List ℕ) → length old ≡ length (b .ids) → LeftFrom (length rows) old (laid (map f rows) old) =
+      λ f old e. let m = length-map rows f in laid-left (map f rows) old (length rows) m (omega arith) in
+      let s = slots-length rows fit in
+      record {
+        ids = one (λ (r : Row). r .id) (b .ids) refl;
+        lengths = one (λ (r : Row). length (r .key)) (b .lengths) (z .lengths-agree);
+        store = laid-left (slotsOf rows) (b .store) (slotSize * length rows) s (omega (arith, z .store-agrees));
+        received = one (λ (r : Row). r .received) (b .received) (z .received-agree);
+        sent = one (λ (r : Row). r .sent) (b .sent) (z .sent-agree);
+      }
+
+  rows-read : RowsRead b rows (length rows) (loaded b rows)
+  unfolding loaded
+  rows-read = record { count = refl; in-use = refl; set = row-set; left = rows-left }
+
+pub read-says : ReadSays
+read-says b card n g rows o e =
+    let q = given b card n g in
+    let r : readCard card ≡ some rows = ap readCard e ∙ card-says (cardOf rows) (card-bytes rows o) rows .1 (o, refl) in
+    let s : q .rows ≡ rows = let p = q .reads in cc in
+    let m : length rows ≤ length (b .ids) = rw (← s) (q .room) in
+    let c : length rows ≡ n = let p = gives b (q .sizes) card rows r m in cc in
+    rw (gives-book b (q .sizes) card rows r m, ← c) (rows-read b (q .sizes) rows o m)
