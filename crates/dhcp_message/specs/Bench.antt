@@ -65,7 +65,8 @@ pub record LayoutPinned : Type 0 where
   pub form : formOf distinct ≡ Full distinctAuth
   pub said : saidOf distinct ≡ says 0x0102_0304_0506_0708 0x090a_0b0c (upFrom 13 16)
   -- byte 3, bytes 24 to 27 and the MAC are zero, and option 82 is gone
-  pub image : imageOf distinct ≡ 1 ∷ 2 ∷ 3 ∷ 0 ∷ (upFrom 5 20 ++ (0 ∷ 0 ∷ 0 ∷ 0 ∷ (upFrom 29 208 ++ (99 ∷ 130 ∷ 83 ∷ 99 ∷ optionsWith (upFrom 1 12 ++ zeros 16) []))))
+  pub image : imageOf distinct
+      ≡ 1 ∷ 2 ∷ 3 ∷ 0 ∷ (upFrom 5 20 ++ (0 ∷ 0 ∷ 0 ∷ 0 ∷ (upFrom 29 208 ++ (99 ∷ 130 ∷ 83 ∷ 99 ∷ optionsWith (upFrom 1 12 ++ zeros 16) []))))
   -- what a seal writes, and where
   pub fields-put : fieldsPut (zeros 28) 0x0102_0304_0506_0708 0x090a_0b0c ≡ upFrom 1 12 ++ zeros 16
   pub mac-put : macPut (zeros 28) (upFrom 13 16) ≡ zeros 12 ++ upFrom 13 16
