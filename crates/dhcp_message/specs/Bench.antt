@@ -5,11 +5,11 @@ use mathlib.Core.Path.{_≡_}
 use mathlib.Core.Logic.{_≢_}
 use mathlib.Core.List.{List, [], _∷_, _++_}
 use Rattle.refusal.specs.declared.Refusal.the-variants.{MessageSize, BrokenOptions, NoAuthentication, RelayInformation, OtherAuthentication, RequestForm}
-use Rattle.dhcp_message.specs.Bytes.{zeros}
+use Rattle.dhcp_message.specs.Bytes.{Bytes, zeros}
 use Rattle.dhcp_message.specs.Layout.{cookieAt, magicCookie}
 use Rattle.dhcp_message.specs.Said.{refused, says, saidOf, formOf, formNumber}
-use Rattle.dhcp_message.specs.Image.{imageOf}
-use Rattle.dhcp_message.specs.Relay.{RelayBody}
+use Rattle.dhcp_message.specs.Image.{imageOf, coverSize}
+use Rattle.dhcp_message.specs.Relay.{RelayBody, Permitted}
 use Rattle.dhcp_message.specs.Seal.{fieldsPut, macPut, sealedWith}
 use Rattle.dhcp_message.specs.declared.Auth.{Auth}
 use Rattle.dhcp_message.specs.declared.Form.the-variants.{Full}
@@ -41,9 +41,17 @@ abbrev pub upFrom : ℕ → ℕ → List ℕ
 upFrom first zero = []
 upFrom first (suc count) = first ∷ upFrom (first + 1) count
 
--- header bytes 1 to 236, the cookie, and these options
+-- a header whose bytes are 1 to 236 but for hops (byte 3) and giaddr (bytes 24 to 27), the cookie, and these options
+abbrev pub headedBy : ℕ → List ℕ → List ℕ → List ℕ
+headedBy hops giaddr options = 1 ∷ 2 ∷ 3 ∷ hops ∷ (upFrom 5 20 ++ (giaddr ++ (upFrom 29 208 ++ (99 ∷ 130 ∷ 83 ∷ 99 ∷ options))))
+
+-- hops and giaddr in their turn: all 236 bytes differ
 abbrev pub distinctOf : List ℕ → List ℕ
-distinctOf options = upFrom 1 236 ++ (99 ∷ 130 ∷ 83 ∷ 99 ∷ options)
+distinctOf options = headedBy 4 (upFrom 25 4) options
+
+-- a header that a relay changed
+abbrev pub relayedOf : List ℕ → List ℕ
+relayedOf options = headedBy 250 (upFrom 251 4) options
 
 -- a host name that holds 90, 82 and 255; a pad; an option 90 that holds 28 bytes behind its method; an option 82, or nothing; a pad; End; and an
 -- option 82 after it
@@ -60,18 +68,27 @@ distinct = distinctOf (optionsWith (upFrom 1 28) someRelay)
 abbrev pub distinctAuth : Auth
 distinctAuth = record { at = 246; counter = 0x0102_0304_0506_0708; id = 0x090a_0b0c; cut = 279; gap = 4 }
 
--- Every number of Layout by what it does to these bytes: another one gives something else here. Nothing below is said through Layout's names.
+-- Every number of Layout by what it does to these bytes: another one gives something else here. Nothing is said through Layout's names.
 pub record LayoutPinned : Type 0 where
   pub form : formOf distinct ≡ Full distinctAuth
   pub said : saidOf distinct ≡ says 0x0102_0304_0506_0708 0x090a_0b0c (upFrom 13 16)
-  -- byte 3, bytes 24 to 27 and the MAC are zero, and option 82 is gone
-  pub image : imageOf distinct
-      ≡ 1 ∷ 2 ∷ 3 ∷ 0 ∷ (upFrom 5 20 ++ (0 ∷ 0 ∷ 0 ∷ 0 ∷ (upFrom 29 208 ++ (99 ∷ 130 ∷ 83 ∷ 99 ∷ optionsWith (upFrom 1 12 ++ zeros 16) []))))
+  pub image : imageOf distinct ≡ headedBy 0 (zeros 4) (optionsWith (upFrom 1 12 ++ zeros 16) [])
+  -- 33 bytes have room for an option 90 in full form, 32 have not
+  pub covers-33 : coverSize (zeros 33) (record { at = 0; counter = 0; id = 0; cut = 33; gap = 0 }) (zeros 33) ≡ 33
+  pub covers-32 : coverSize (zeros 32) (record { at = 0; counter = 0; id = 0; cut = 32; gap = 0 }) (zeros 32) ≡ 0
   -- what a seal writes, and where
   pub fields-put : fieldsPut (zeros 28) 0x0102_0304_0506_0708 0x090a_0b0c ≡ upFrom 1 12 ++ zeros 16
   pub mac-put : macPut (zeros 28) (upFrom 13 16) ≡ zeros 12 ++ upFrom 13 16
   pub sealed : sealedWith distinctAuth (upFrom 201 28) distinct ≡ distinctOf (optionsWith (upFrom 201 28) someRelay)
-  -- a message for each number: 241 bytes are enough
+  -- what a relay may make of it
+  pub relay-replaces : Permitted distinct (relayedOf (optionsWith (upFrom 1 28) (82 ∷ 1 ∷ 7 ∷ [])))
+  pub relay-removes : Permitted distinct (relayedOf (optionsWith (upFrom 1 28) []))
+  pub relay-adds : Permitted (distinctOf (90 ∷ 0 ∷ 255 ∷ [])) (relayedOf (90 ∷ 0 ∷ 82 ∷ 1 ∷ 7 ∷ 255 ∷ []))
+  pub relay-body-255 : RelayBody (zeros 255)
+  pub relay-body-256 : RelayBody (zeros 256) → ⊥
+  pub byte-255 : Bytes (255 ∷ [])
+  pub byte-256 : Bytes (256 ∷ []) → ⊥
+  -- a message for each number
   pub number-0 : formNumber (formOf distinct) ≡ 0
   pub number-2 : formNumber (formOf (distinctOf [])) ≡ 2
   pub number-3 : formNumber (formOf (upFrom 1 241)) ≡ 3
@@ -81,6 +98,3 @@ pub record LayoutPinned : Type 0 where
   pub number-7 : formNumber (formOf (distinctOf (90 ∷ 0 ∷ 82 ∷ 0 ∷ 82 ∷ 0 ∷ 255 ∷ []))) ≡ 7
   pub number-8 : formNumber (formOf (distinctOf (90 ∷ 0 ∷ 255 ∷ []))) ≡ 8
   pub number-9 : formNumber (formOf (distinctOf (90 ∷ 11 ∷ 1 ∷ 1 ∷ 0 ∷ (upFrom 1 8 ++ (255 ∷ []))))) ≡ 9
-  -- the longest body
-  pub body-255 : RelayBody (zeros 255)
-  pub body-256 : RelayBody (zeros 256) → ⊥
