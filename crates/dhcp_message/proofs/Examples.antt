@@ -30,10 +30,10 @@ bench-examples = record {
   example-7-protocol = refl;
 }
 
--- a change with the hops and giaddr that the examples have
+-- a change with the hops and giaddr that the examples have, to a message as short as they are
 relayed : (m n : List ℕ) (ts us : List Token) (rest : List ℕ) → Passes27 m → Reads (drop 240 m) ts rest → RelayChange ts us
-    → n ≡ headWith (250 ∷ []) (upFrom 251 4) (take 240 m) ++ (encode us ++ (255 ∷ rest)) → length n ≤ 1472 → Permitted m n
-relayed m n ts us rest passes reads change becomes fits = record {
+    → n ≡ headWith (250 ∷ []) (upFrom 251 4) (take 240 m) ++ (encode us ++ (255 ∷ rest)) → length n ≤ 300 → Permitted m n
+relayed m n ts us rest passes reads change becomes short = record {
   passes = passes;
   tokens = ts;
   rest = rest;
@@ -47,7 +47,7 @@ relayed m n ts us rest passes reads change becomes fits = record {
   giaddr-size = refl;
   giaddr-bytes = (omega arith, (omega arith, (omega arith, (omega arith, tt))));
   becomes = becomes;
-  fits = fits;
+  fits = omega arith;
 }
 
 -- the options of the message whose bytes differ, and those in front of its option 82
