@@ -18,7 +18,7 @@ bytes-zeros zero = tt
 bytes-zeros (suc n) = (omega arith, bytes-zeros n)
 
 pub bench-examples : BenchExamples
-unfolding saidOf checkedOf checkedTokens decodeAt saidBy imageOf written
+unfolding saidOf checkedOf checkedTokens decodeAt saidBy
 bench-examples = record {
   example-3-short = refl;
   example-3-long = refl;

@@ -84,11 +84,12 @@ pub record LayoutPinned : Type 0 where
   pub relay-replaces : Permitted distinct (relayedOf (optionsWith (upFrom 1 28) (82 ∷ 1 ∷ 7 ∷ [])))
   pub relay-removes : Permitted distinct (relayedOf (optionsWith (upFrom 1 28) []))
   pub relay-adds : Permitted (distinctOf (90 ∷ 0 ∷ 255 ∷ [])) (relayedOf (90 ∷ 0 ∷ 82 ∷ 1 ∷ 7 ∷ 255 ∷ []))
+  -- the longest body, and the largest byte
   pub relay-body-255 : RelayBody (zeros 255)
   pub relay-body-256 : RelayBody (zeros 256) → ⊥
   pub byte-255 : Bytes (255 ∷ [])
   pub byte-256 : Bytes (256 ∷ []) → ⊥
-  -- a message for each number
+  -- a message for each number: 240 bytes are too few, 241 are not
   pub number-0 : formNumber (formOf distinct) ≡ 0
   pub number-2 : formNumber (formOf (distinctOf [])) ≡ 2
   pub number-3 : formNumber (formOf (upFrom 1 241)) ≡ 3
