@@ -52,7 +52,7 @@ relayed m n ts us rest passes reads change becomes short = record {
 
 -- the options of the message whose bytes differ, and those in front of its option 82
 abbrev front : List Token
-front = opt 12 (90 ∷ 82 ∷ 255 ∷ []) ∷ pad ∷ opt 90 (1 ∷ 1 ∷ 0 ∷ upFrom 1 28) ∷ []
+front = opt 12 (90 ∷ 82 ∷ 255 ∷ []) ∷ pad ∷ opt 90 (1 ∷ 1 ∷ 0 ∷ upFrom 201 28) ∷ []
 
 abbrev options : List Token
 options = front ++ (opt 82 (90 ∷ 9 ∷ []) ∷ pad ∷ [])

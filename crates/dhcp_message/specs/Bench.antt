@@ -61,28 +61,28 @@ optionsWith sealed relay = 12 ∷ 3 ∷ 90 ∷ 82 ∷ 255 ∷ 0 ∷ 90 ∷ 31 �
 abbrev pub someRelay : List ℕ
 someRelay = 82 ∷ 2 ∷ 90 ∷ 9 ∷ []
 
--- counter 1 to 8, id 9 to 12, MAC 13 to 28
+-- counter 201 to 208, id 209 to 212, MAC 213 to 228
 abbrev pub distinct : List ℕ
-distinct = distinctOf (optionsWith (upFrom 1 28) someRelay)
+distinct = distinctOf (optionsWith (upFrom 201 28) someRelay)
 
 abbrev pub distinctAuth : Auth
-distinctAuth = record { at = 246; counter = 0x0102_0304_0506_0708; id = 0x090a_0b0c; cut = 279; gap = 4 }
+distinctAuth = record { at = 246; counter = 0xc9ca_cbcc_cdce_cfd0; id = 0xd1d2_d3d4; cut = 279; gap = 4 }
 
 -- Every number of Layout by what it does to these bytes: another one gives something else here. Nothing is said through Layout's names.
 pub record LayoutPinned : Type 0 where
   pub form : formOf distinct ≡ Full distinctAuth
-  pub said : saidOf distinct ≡ says 0x0102_0304_0506_0708 0x090a_0b0c (upFrom 13 16)
-  pub image : imageOf distinct ≡ headedBy 0 (zeros 4) (optionsWith (upFrom 1 12 ++ zeros 16) [])
+  pub said : saidOf distinct ≡ says 0xc9ca_cbcc_cdce_cfd0 0xd1d2_d3d4 (upFrom 213 16)
+  pub image : imageOf distinct ≡ headedBy 0 (zeros 4) (optionsWith (upFrom 201 12 ++ zeros 16) [])
   -- 33 bytes have room for an option 90 in full form, 32 have not
   pub covers-33 : coverSize (zeros 33) (record { at = 0; counter = 0; id = 0; cut = 33; gap = 0 }) (zeros 33) ≡ 33
   pub covers-32 : coverSize (zeros 32) (record { at = 0; counter = 0; id = 0; cut = 32; gap = 0 }) (zeros 32) ≡ 0
   -- what a seal writes, and where
-  pub fields-put : fieldsPut (zeros 28) 0x0102_0304_0506_0708 0x090a_0b0c ≡ upFrom 1 12 ++ zeros 16
-  pub mac-put : macPut (zeros 28) (upFrom 13 16) ≡ zeros 12 ++ upFrom 13 16
-  pub sealed : sealedWith distinctAuth (upFrom 201 28) distinct ≡ distinctOf (optionsWith (upFrom 201 28) someRelay)
+  pub fields-put : fieldsPut (zeros 28) 0xc9ca_cbcc_cdce_cfd0 0xd1d2_d3d4 ≡ upFrom 201 12 ++ zeros 16
+  pub mac-put : macPut (zeros 28) (upFrom 213 16) ≡ zeros 12 ++ upFrom 213 16
+  pub sealed : sealedWith distinctAuth (upFrom 101 28) distinct ≡ distinctOf (optionsWith (upFrom 101 28) someRelay)
   -- what a relay may make of it
-  pub relay-replaces : Permitted distinct (relayedOf (optionsWith (upFrom 1 28) (82 ∷ 1 ∷ 7 ∷ [])))
-  pub relay-removes : Permitted distinct (relayedOf (optionsWith (upFrom 1 28) []))
+  pub relay-replaces : Permitted distinct (relayedOf (optionsWith (upFrom 201 28) (82 ∷ 1 ∷ 7 ∷ [])))
+  pub relay-removes : Permitted distinct (relayedOf (optionsWith (upFrom 201 28) []))
   pub relay-adds : Permitted (distinctOf (90 ∷ 0 ∷ 255 ∷ [])) (relayedOf (90 ∷ 0 ∷ 82 ∷ 1 ∷ 7 ∷ 255 ∷ []))
   -- the longest body, and the largest byte
   pub relay-body-255 : RelayBody (zeros 255)
