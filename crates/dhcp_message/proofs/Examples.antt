@@ -73,9 +73,10 @@ layout-pinned = record {
   sealed = refl;
   relay-replaces = relayed distinct _ options (front ++ (opt 82 (7 ∷ []) ∷ pad ∷ [])) (82 ∷ 0 ∷ []) tt options-read
       (replaced front (90 ∷ 9 ∷ []) (7 ∷ []) (pad ∷ []) (omega arith, (omega arith, tt)) refl refl) refl (omega arith);
-  relay-removes = relayed distinct _ options (front ++ (pad ∷ [])) (82 ∷ 0 ∷ []) tt options-read (removed front (90 ∷ 9 ∷ []) (pad ∷ []) refl refl) refl (omega arith);
-  relay-adds = relayed (distinctOf (90 ∷ 0 ∷ 255 ∷ [])) _ (opt 90 [] ∷ []) (opt 90 [] ∷ opt 82 (7 ∷ []) ∷ []) [] tt ((omega arith, omega arith, omega arith, tt), refl)
-      (added (7 ∷ []) (omega arith, (omega arith, tt)) refl refl) refl (omega arith);
+  relay-removes = relayed distinct _ options (front ++ (pad ∷ [])) (82 ∷ 0 ∷ []) tt options-read
+      (removed front (90 ∷ 9 ∷ []) (pad ∷ []) refl refl) refl (omega arith);
+  relay-adds = relayed (distinctOf (90 ∷ 0 ∷ 255 ∷ [])) _ (opt 90 [] ∷ []) (opt 90 [] ∷ opt 82 (7 ∷ []) ∷ []) [] tt
+      ((omega arith, omega arith, omega arith, tt), refl) (added (7 ∷ []) (omega arith, (omega arith, tt)) refl refl) refl (omega arith);
   relay-body-255 = (omega arith, bytes-zeros 255);
   relay-body-256 = λ h. omega (arith, h .0);
   byte-255 = (omega arith, tt);

@@ -13,8 +13,10 @@ use Rattle.dhcp_message.specs.Options.{Token, pad, opt, Parsed, encode, 
 use Rattle.dhcp_message.specs.Message.{count, optionOf, isLast, authIn, authOptionOf, Passes27}
 use Rattle.dhcp_message.specs.Said.{saidBy, saidIn, saidOf, idOf, named}
 use Rattle.dhcp_message.specs.Image.{without, macZero, headWith, imageIn, imageOf}
-use Rattle.dhcp_message.specs.Relay.{RelayChange, kept, added, replaced, removed, Permitted, Relayed, unchanged, changed, Kept, RelayKeeps, AnyHeader, WhereFits, RelayMay}
-use Rattle.dhcp_message.proofs.Lists.{length-written, written-over, written-apart, drop-written, bytes-append, bytes-left, bytes-right, bytes-drop, bytes-written}
+use Rattle.dhcp_message.specs.Relay.{RelayChange, kept, added, replaced, removed, Permitted, Relayed, unchanged, changed, Kept, RelayKeeps}
+use Rattle.dhcp_message.specs.Relay.{AnyHeader, WhereFits, RelayMay}
+use Rattle.dhcp_message.proofs.Lists.{length-written, written-over, written-apart, drop-written, bytes-append, bytes-left, bytes-right, bytes-written}
+use Rattle.dhcp_message.proofs.Lists.{bytes-drop}
 use Rattle.dhcp_message.proofs.Decoding.{Codes, decode-reads, reads-decode}
 use Rattle.dhcp_message.proofs.Tokens.{encode-append, nil-right, count-append, count-split, last-there, last-none, without-append, without-one, count-without, option-without}
 use Rattle.dhcp_message.proofs.Passing.{Passing, passing, checks, passing-27, Tokens, tokens-of, take-built, passing-built, header-size, header-magic, codes, whole}
@@ -73,8 +75,10 @@ module _ (m : List ℕ) (passes : Passes27 m) where
 
     may-remove : AnyHeader m (encode front ++ (encode back ++ (255 ∷ rest)))
     may-remove =
-        let l : length (encode front ++ (encode back ++ (255 ∷ rest))) ≤ length (drop 240 m) = rw (reads .1) (simp (encode-append, length-append) (omega arith)) in
-        permitted (front ++ (opt 82 old ∷ back)) (front ++ back) rest reads (removed front old back refl refl) _ (simp (encode-append, append-assoc)) (no-longer _ l)
+        let l : length (encode front ++ (encode back ++ (255 ∷ rest))) ≤ length (drop 240 m) =
+        rw (reads .1) (simp (encode-append, length-append) (omega arith)) in
+        permitted (front ++ (opt 82 old ∷ back)) (front ++ back) rest reads (removed front old back refl refl) _
+        (simp (encode-append, append-assoc)) (no-longer _ l)
 
 pub relay-may : RelayMay
 relay-may = record {
