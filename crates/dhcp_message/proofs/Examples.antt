@@ -1,16 +1,24 @@
--- Bench examples 3 to 7, computed over the definitions.
+-- Bench examples 3 to 7 and the message whose bytes differ, computed over the definitions.
 use mathlib.Core.Path.{_≡_, refl}
-use Prim.Native.Nat.{ℕ}
+use Prim.Native.Nat.{ℕ, zero, suc, _≤_}
 use native.Mathlib.Omega.{arith}
-use Rattle.dhcp_message.specs.Bytes.{written}
-use Rattle.dhcp_message.specs.Options.{decodeAt}
-use Rattle.dhcp_message.specs.Message.{checkedTokens, checkedOf}
-use Rattle.dhcp_message.specs.Said.{saidBy, saidOf}
-use Rattle.dhcp_message.specs.Image.{imageOf}
-use Rattle.dhcp_message.specs.Bench.{BenchExamples}
+use mathlib.Core.List.{List, [], _∷_, _++_}
+use lib.ListN.{length, take, drop}
+use Rattle.dhcp_message.specs.Bytes.{Bytes, written, zeros}
+use Rattle.dhcp_message.specs.Options.{Token, pad, opt, encode, Reads, decodeAt}
+use Rattle.dhcp_message.specs.Message.{checkedTokens, checkedOf, Passes27}
+use Rattle.dhcp_message.specs.Said.{saidBy, saidOf, formOf}
+use Rattle.dhcp_message.specs.Image.{headWith, imageOf, coverFits, coverSize}
+use Rattle.dhcp_message.specs.Relay.{RelayChange, added, replaced, removed, Permitted}
+use Rattle.dhcp_message.specs.Seal.{fieldsPut, macPut}
+use Rattle.dhcp_message.specs.Bench.{BenchExamples, upFrom, distinctOf, distinct, LayoutPinned}
+
+bytes-zeros : (n : ℕ) → Bytes (zeros n)
+bytes-zeros zero = tt
+bytes-zeros (suc n) = (omega arith, bytes-zeros n)
 
 pub bench-examples : BenchExamples
-unfolding saidOf checkedOf checkedTokens decodeAt saidBy imageOf written
+unfolding saidOf checkedOf checkedTokens decodeAt saidBy
 bench-examples = record {
   example-3-short = refl;
   example-3-long = refl;
@@ -20,6 +28,66 @@ bench-examples = record {
   example-6 = refl;
   example-7-request = refl;
   example-7-protocol = refl;
-  says-full = refl;
-  image-full = refl;
+}
+
+-- a change with the hops and giaddr that the examples have, to a message as short as they are
+relayed : (m n : List ℕ) (ts us : List Token) (rest : List ℕ) → Passes27 m → Reads (drop 240 m) ts rest → RelayChange ts us
+    → n ≡ headWith (250 ∷ []) (upFrom 251 4) (take 240 m) ++ (encode us ++ (255 ∷ rest)) → length n ≤ 300 → Permitted m n
+relayed m n ts us rest passes reads change becomes short = record {
+  passes = passes;
+  tokens = ts;
+  rest = rest;
+  reads = reads;
+  tokens′ = us;
+  change = change;
+  hops = 250 ∷ [];
+  hops-size = refl;
+  hops-bytes = (omega arith, tt);
+  giaddr = upFrom 251 4;
+  giaddr-size = refl;
+  giaddr-bytes = (omega arith, (omega arith, (omega arith, (omega arith, tt))));
+  becomes = becomes;
+  fits = omega arith;
+}
+
+-- the options of the message whose bytes differ, and those in front of its option 82
+abbrev front : List Token
+front = opt 12 (90 ∷ 82 ∷ 255 ∷ []) ∷ pad ∷ opt 90 (1 ∷ 1 ∷ 0 ∷ upFrom 201 28) ∷ []
+
+abbrev options : List Token
+options = front ++ (opt 82 (90 ∷ 9 ∷ []) ∷ pad ∷ [])
+
+options-read : Reads (drop 240 distinct) options (82 ∷ 0 ∷ [])
+options-read = ((omega arith, omega arith, omega arith, (omega arith, omega arith, omega arith, (omega arith, omega arith, omega arith, tt))), refl)
+
+pub layout-pinned : LayoutPinned
+unfolding saidOf formOf checkedOf checkedTokens decodeAt saidBy imageOf coverFits coverSize written fieldsPut macPut
+layout-pinned = record {
+  form = refl;
+  said = refl;
+  image = refl;
+  covers-33 = refl;
+  covers-32 = refl;
+  fields-put = refl;
+  mac-put = refl;
+  sealed = refl;
+  relay-replaces = relayed distinct _ options (front ++ (opt 82 (7 ∷ []) ∷ pad ∷ [])) (82 ∷ 0 ∷ []) tt options-read
+      (replaced front (90 ∷ 9 ∷ []) (7 ∷ []) (pad ∷ []) (omega arith, (omega arith, tt)) refl refl) refl (omega arith);
+  relay-removes = relayed distinct _ options (front ++ (pad ∷ [])) (82 ∷ 0 ∷ []) tt options-read
+      (removed front (90 ∷ 9 ∷ []) (pad ∷ []) refl refl) refl (omega arith);
+  relay-adds = relayed (distinctOf (90 ∷ 0 ∷ 255 ∷ [])) _ (opt 90 [] ∷ []) (opt 90 [] ∷ opt 82 (7 ∷ []) ∷ []) [] tt
+      ((omega arith, omega arith, omega arith, tt), refl) (added (7 ∷ []) (omega arith, (omega arith, tt)) refl refl) refl (omega arith);
+  relay-body-255 = (omega arith, bytes-zeros 255);
+  relay-body-256 = λ h. omega (arith, h .0);
+  byte-255 = (omega arith, tt);
+  byte-256 = λ h. omega (arith, h .0);
+  number-0 = refl;
+  number-2 = refl;
+  number-3 = refl;
+  number-4 = refl;
+  number-5 = refl;
+  number-6 = refl;
+  number-7 = refl;
+  number-8 = refl;
+  number-9 = refl;
 }

@@ -9,7 +9,7 @@ use mathlib.Core.List.{List, [], _∷_, _++_}
 use lib.ListN.{length, drop}
 use lib.Dec.{ltb, eqb}
 use borrow.Author.Tests.{ltb-true, ltb-false, eqb-true, eqb-false}
-use Rattle.refusal.specs.Number.{numberOf}
+use Rattle.refusal.specs.Number.{numberOf, done}
 use Rattle.refusal.specs.declared.Refusal.{Refusal}
 use Rattle.refusal.proofs.Names.{nameOf, named-back, numbers-tell}
 use Rattle.refusal.specs.declared.Refusal.the-variants.{UnsoundBook, MessageSize, WrongCookie, BrokenOptions, NoAuthentication, RepeatedAuthentication, RelayInformation, OtherAuthentication, RequestForm, UnknownSecret, Replay, WrongMac, CounterSpent, TooLong, MalformedCard, NoRoomForCard, NoRoomForRows}
@@ -17,7 +17,7 @@ use Rattle.dhcp_message.specs.Layout.{magicCookie, delayed}
 use Rattle.dhcp_message.specs.Bytes.{Bytes, starts}
 use Rattle.dhcp_message.specs.Options.{Token, opt, Parsed, cut, parsed, decode, Reads}
 use Rattle.dhcp_message.specs.Message.{count, optionOf, onlyPads, isLast, Checked, stopped, passed, checkedTokens, checkedParsed, checkedOf, Passed}
-use Rattle.dhcp_message.specs.Said.{refused, says, saidFor, saidBy, placesOf, formSaid, formIn, formOf}
+use Rattle.dhcp_message.specs.Said.{refused, says, saidFor, saidBy, placesOf, formSaid, formIn, formOf, formNumber}
 use Rattle.dhcp_message.specs.Numbers.{OnlyPads, Readable, Has, RelayWrong, OtherForm, RequestBytes, Applies, NoneBelow, LowestGiven}
 use Rattle.dhcp_message.specs.declared.Auth.{Auth}
 use Rattle.dhcp_message.specs.declared.Form.{Form}
@@ -230,13 +230,37 @@ full-where-none : (m : List ℕ) (f : Form) → GivenForm m f → ((k : Refusal)
 full-where-none m (Refused r) g n = absurd (n r (g .0))
 full-where-none m (Full a) g n = (a, refl)
 
+-- a form by its number
+number-named : (r : Refusal) (f : Form) → formNumber f ≡ numberOf r → f ≡ Refused r
+number-named r (Refused q) e = ap Refused (numbers-tell .apart q r e)
+number-named r (Full a) e = absurd (omega (arith, numbers-tell .not-done r))
+
+number-full : (f : Form) → formNumber f ≡ done → (a : Auth) × (f ≡ Full a)
+number-full (Refused r) e = absurd (omega (arith, numbers-tell .not-done r))
+number-full (Full a) e = (a, refl)
+
 passes-where-none : (m : List ℕ) (c : Checked) → Given m c → (Passed c → NoneBelow 8 m) × (NoneBelow 8 m → Passed c)
 passes-where-none m (stopped r) g = (λ h. absurd h, λ n. n r (g .2) (g .0))
 passes-where-none m (passed ts rest) g = (λ h. g, λ n. tt)
 
+module _ (m : List ℕ) (bytes : Bytes m) where
+  refused-lowest : (r : Refusal) → formOf m ≡ Refused r → Applies r m × NoneBelow (numberOf r) m
+  refused-lowest r e = subst (GivenForm m) e (given-form m bytes)
+
+  lowest-refused : (r : Refusal) → Applies r m × NoneBelow (numberOf r) m → formOf m ≡ Refused r
+  lowest-refused r h = lowest m r (formOf m) (given-form m bytes) (h .0) (h .1)
+
+  full-none : (a : Auth) × (formOf m ≡ Full a) → (k : Refusal) → Applies k m → ⊥
+  full-none h = none-at-all m (subst (GivenForm m) (h .1) (given-form m bytes))
+
+  none-full : ((k : Refusal) → Applies k m → ⊥) → (a : Auth) × (formOf m ≡ Full a)
+  none-full n = full-where-none m (formOf m) (given-form m bytes) n
+
 pub lowest-given : LowestGiven
 lowest-given = record {
-  refused = λ m b r. (λ e. subst (GivenForm m) e (given-form m b), λ h. lowest m r (formOf m) (given-form m b) (h .0) (h .1));
-  full = λ m b. (λ h. none-at-all m (subst (GivenForm m) (h .1) (given-form m b)), full-where-none m (formOf m) (given-form m b));
+  number = λ m b r. (λ e. refused-lowest m b r (number-named r (formOf m) e), λ h. ap formNumber (lowest-refused m b r h));
+  number-0 = λ m b. (λ e. full-none m b (number-full (formOf m) e), λ n. ap formNumber (none-full m b n .1));
+  refused = λ m b r. (refused-lowest m b r, lowest-refused m b r);
+  full = λ m b. (full-none m b, none-full m b);
   passes = λ m b. passes-where-none m (checkedOf m) (given m b);
 }

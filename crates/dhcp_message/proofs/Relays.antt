@@ -1,24 +1,92 @@
--- A permitted relay change keeps checks 2 to 7, option 90's bytes, what the message says and the covered image: what is left without option
--- 82 is the same tokens, and hops and giaddr are zero in the image.
+-- All that a relay may do is a permitted change. And a permitted change keeps checks 2 to 7, option 90's bytes, what the message says and the
+-- covered image: what is left without option 82 is the same tokens, and hops and giaddr are zero in the image.
 use mathlib.Core.Path.{_≡_, refl, sym, ap, ap₂, _∙_, subst}
 use mathlib.Core.Logic.{_≢_}
 use Prim.Native.Nat.{ℕ, _+_, _≤_, _<_}
 use native.Mathlib.Omega.{arith}
 use mathlib.Core.Bool.{true}
-use mathlib.Core.List.{List, [], _∷_, _++_}
-use lib.ListN.{length, take, drop}
+use mathlib.Core.List.{List, [], _∷_, _++_, append-assoc}
+use lib.ListN.{length, take, drop, length-append, length-drop}
 use Rattle.dhcp_message.specs.Layout.{magicCookie}
 use Rattle.dhcp_message.specs.Bytes.{Bytes, written, zeros, starts}
-use Rattle.dhcp_message.specs.Options.{Token, pad, opt, Parsed, encode}
-use Rattle.dhcp_message.specs.Message.{count, optionOf, isLast, authIn, authOptionOf}
+use Rattle.dhcp_message.specs.Options.{Token, pad, opt, Parsed, encode, Reads}
+use Rattle.dhcp_message.specs.Message.{count, optionOf, isLast, authIn, authOptionOf, Passes27}
 use Rattle.dhcp_message.specs.Said.{saidBy, saidIn, saidOf, idOf, named}
 use Rattle.dhcp_message.specs.Image.{without, macZero, headWith, imageIn, imageOf}
 use Rattle.dhcp_message.specs.Relay.{RelayChange, kept, added, replaced, removed, Permitted, Relayed, unchanged, changed, Kept, RelayKeeps}
+use Rattle.dhcp_message.specs.Relay.{AnyHeader, WhereFits, RelayMay}
 use Rattle.dhcp_message.proofs.Lists.{length-written, written-over, written-apart, drop-written, bytes-append, bytes-left, bytes-right, bytes-written}
-use Rattle.dhcp_message.proofs.Decoding.{Codes, reads-decode}
+use Rattle.dhcp_message.proofs.Lists.{bytes-drop}
+use Rattle.dhcp_message.proofs.Decoding.{Codes, decode-reads, reads-decode}
 use Rattle.dhcp_message.proofs.Tokens.{encode-append, nil-right, count-append, count-split, last-there, last-none, without-append, without-one, count-without, option-without}
-use Rattle.dhcp_message.proofs.Passing.{Passing, passing, checks, passing-27, tokens-of, take-built, passing-built, header-size, header-magic, codes, whole}
+use Rattle.dhcp_message.proofs.Passing.{Passing, passing, checks, passing-27, Tokens, tokens-of, take-built, passing-built, header-size, header-magic, codes, whole}
 use Rattle.dhcp_message.proofs.Images.{head-length}
+
+-- ---- what is permitted
+
+module _ (m : List ℕ) (passes : Passes27 m) where
+  abbrev found : Tokens m
+  found = tokens-of m passes
+
+  checked : Passing m (found .tokens) (found .rest)
+  checked = passing m (found .tokens) (found .rest) (found .checked)
+
+  module _ (ts us : List Token) (rest : List ℕ) (reads : Reads (drop 240 m) ts rest) (change : RelayChange ts us) where
+    permitted : (options : List ℕ) → options ≡ encode us ++ (255 ∷ rest) → WhereFits m options
+    permitted options e fits hops giaddr hs hb gs gb =
+        let h = header-size m (found .tokens) (found .rest) checked in
+        let n : length (headWith hops giaddr (take 240 m)) ≡ 240 = head-length hops giaddr (take 240 m) hs gs (omega arith) ∙ h in
+        record {
+          passes = passes;
+          tokens = ts;
+          rest = rest;
+          reads = reads;
+          tokens′ = us;
+          change = change;
+          hops = hops;
+          hops-size = hs;
+          hops-bytes = hb;
+          giaddr = giaddr;
+          giaddr-size = gs;
+          giaddr-bytes = gb;
+          becomes = ap (λ (l : List ℕ). headWith hops giaddr (take 240 m) ++ l) e;
+          fits = rw (length-append, n) (omega arith);
+        }
+
+  -- no more option bytes than there were
+  no-longer : (size : ℕ) → size ≤ length (drop 240 m) → 240 + size ≤ 1472
+  no-longer size l = let n = length-drop 240 m in omega (arith, checked .long, checked .short)
+
+  may-keep : Bytes m → AnyHeader m (drop 240 m)
+  may-keep bytes =
+      let reads = decode-reads (drop 240 m) (found .tokens) (found .rest) (bytes-drop 240 m bytes) (checked .reads) in
+      permitted (found .tokens) (found .tokens) (found .rest) reads (kept refl) (drop 240 m) (reads .1) (no-longer (length (drop 240 m)) (omega arith))
+
+  may-add : (ts : List Token) (rest body : List ℕ) → Reads (drop 240 m) ts rest → count 82 ts ≡ 0 → length body ≤ 255 → Bytes body
+      → WhereFits m (encode ts ++ (82 ∷ length body ∷ (body ++ (255 ∷ rest))))
+  may-add ts rest body reads none most bytes =
+      permitted ts (ts ++ (opt 82 body ∷ [])) rest reads (added body (most, bytes) none refl) _ (simp (encode-append, append-assoc))
+
+  module _ (front : List Token) (old : List ℕ) (back : List Token) (rest : List ℕ) (reads : Reads (drop 240 m) (front ++ (opt 82 old ∷ back)) rest) where
+    may-replace : (body : List ℕ) → length body ≤ 255 → Bytes body → WhereFits m (encode front ++ (82 ∷ length body ∷ (body ++ (encode back ++ (255 ∷ rest)))))
+    may-replace body most bytes =
+        permitted (front ++ (opt 82 old ∷ back)) (front ++ (opt 82 body ∷ back)) rest reads (replaced front old body back (most, bytes) refl refl) _
+        (simp (encode-append, append-assoc))
+
+    may-remove : AnyHeader m (encode front ++ (encode back ++ (255 ∷ rest)))
+    may-remove =
+        let l : length (encode front ++ (encode back ++ (255 ∷ rest))) ≤ length (drop 240 m) =
+        rw (reads .1) (simp (encode-append, length-append) (omega arith)) in
+        permitted (front ++ (opt 82 old ∷ back)) (front ++ back) rest reads (removed front old back refl refl) _
+        (simp (encode-append, append-assoc)) (no-longer _ l)
+
+pub relay-may : RelayMay
+relay-may = record {
+  keep = λ m bytes passes. may-keep m passes bytes;
+  add = may-add;
+  replace = λ m passes front old back rest body reads. may-replace m passes front old back rest reads body;
+  remove = may-remove;
+}
 
 -- ---- on tokens
 

@@ -1,14 +1,18 @@
--- Bench examples 3 to 7 of document 01, of the definitions, and a covered image written out. From example 4 on a message is 236 zeros,
--- the cookie and the named options.
-use Prim.Native.Nat.{ℕ}
+-- Bench examples 3 to 7 of document 01, of the definitions: from example 4 on a message is 236 zeros, the cookie and the named options. Then a
+-- message whose bytes differ, with all that is read from it and written over it as bytes, so that every offset, size and code shows.
+use Prim.Native.Nat.{ℕ, zero, suc, _+_}
 use mathlib.Core.Path.{_≡_}
 use mathlib.Core.Logic.{_≢_}
 use mathlib.Core.List.{List, [], _∷_, _++_}
 use Rattle.refusal.specs.declared.Refusal.the-variants.{MessageSize, BrokenOptions, NoAuthentication, RelayInformation, OtherAuthentication, RequestForm}
-use Rattle.dhcp_message.specs.Bytes.{zeros}
+use Rattle.dhcp_message.specs.Bytes.{Bytes, zeros}
 use Rattle.dhcp_message.specs.Layout.{cookieAt, magicCookie}
-use Rattle.dhcp_message.specs.Said.{refused, says, saidOf}
-use Rattle.dhcp_message.specs.Image.{imageOf}
+use Rattle.dhcp_message.specs.Said.{refused, says, saidOf, formOf, formNumber}
+use Rattle.dhcp_message.specs.Image.{imageOf, coverSize}
+use Rattle.dhcp_message.specs.Relay.{RelayBody, Permitted}
+use Rattle.dhcp_message.specs.Seal.{fieldsPut, macPut, sealedWith}
+use Rattle.dhcp_message.specs.declared.Auth.{Auth}
+use Rattle.dhcp_message.specs.declared.Form.the-variants.{Full}
 
 abbrev pub messageOf : List ℕ → List ℕ
 messageOf options = zeros cookieAt ++ (magicCookie ++ options)
@@ -29,6 +33,69 @@ pub record BenchExamples : Type 0 where
   pub example-6 : saidOf (messageOf (fullAuth 1 11 7 someMac ++ (82 ∷ 1 ∷ 9 ∷ 53 ∷ 1 ∷ 5 ∷ 255 ∷ []))) ≡ refused RelayInformation
   pub example-7-request : saidOf (messageOf (90 ∷ 11 ∷ 1 ∷ 1 ∷ 0 ∷ (zeros 8 ++ (255 ∷ [])))) ≡ refused RequestForm
   pub example-7-protocol : saidOf (messageOf (fullAuth 0 11 7 someMac ++ (255 ∷ []))) ≡ refused OtherAuthentication
-  -- option 82 behind option 90, a pad behind it, and bytes after End
-  pub says-full : saidOf (messageOf (fullAuth 1 11 7 someMac ++ (82 ∷ 1 ∷ 9 ∷ 0 ∷ 255 ∷ 1 ∷ 2 ∷ []))) ≡ says 11 7 someMac
-  pub image-full : imageOf (messageOf (fullAuth 1 11 7 someMac ++ (82 ∷ 1 ∷ 9 ∷ 0 ∷ 255 ∷ 1 ∷ 2 ∷ []))) ≡ messageOf (fullAuth 1 11 7 (zeros 16) ++ (0 ∷ 255 ∷ 1 ∷ 2 ∷ []))
+
+-- ---- a message whose bytes differ
+
+-- so many bytes, each one above the last
+abbrev pub upFrom : ℕ → ℕ → List ℕ
+upFrom first zero = []
+upFrom first (suc count) = first ∷ upFrom (first + 1) count
+
+-- a header whose bytes are 1 to 236 but for hops (byte 3) and giaddr (bytes 24 to 27), the cookie, and these options
+abbrev pub headedBy : ℕ → List ℕ → List ℕ → List ℕ
+headedBy hops giaddr options = 1 ∷ 2 ∷ 3 ∷ hops ∷ (upFrom 5 20 ++ (giaddr ++ (upFrom 29 208 ++ (99 ∷ 130 ∷ 83 ∷ 99 ∷ options))))
+
+-- hops and giaddr in their turn: all 236 bytes differ
+abbrev pub distinctOf : List ℕ → List ℕ
+distinctOf options = headedBy 4 (upFrom 25 4) options
+
+-- a header that a relay changed
+abbrev pub relayedOf : List ℕ → List ℕ
+relayedOf options = headedBy 250 (upFrom 251 4) options
+
+-- a host name that holds 90, 82 and 255; a pad; an option 90 that holds 28 bytes behind its method; an option 82, or nothing; a pad; End; and an
+-- option 82 after it
+abbrev pub optionsWith : List ℕ → List ℕ → List ℕ
+optionsWith sealed relay = 12 ∷ 3 ∷ 90 ∷ 82 ∷ 255 ∷ 0 ∷ 90 ∷ 31 ∷ 1 ∷ 1 ∷ 0 ∷ (sealed ++ (relay ++ (0 ∷ 255 ∷ 82 ∷ 0 ∷ [])))
+
+abbrev pub someRelay : List ℕ
+someRelay = 82 ∷ 2 ∷ 90 ∷ 9 ∷ []
+
+-- counter 201 to 208, id 209 to 212, MAC 213 to 228
+abbrev pub distinct : List ℕ
+distinct = distinctOf (optionsWith (upFrom 201 28) someRelay)
+
+abbrev pub distinctAuth : Auth
+distinctAuth = record { at = 246; counter = 0xc9ca_cbcc_cdce_cfd0; id = 0xd1d2_d3d4; cut = 279; gap = 4 }
+
+-- Every number of Layout by what it does to these bytes: another one gives something else here. Nothing is said through Layout's names.
+pub record LayoutPinned : Type 0 where
+  pub form : formOf distinct ≡ Full distinctAuth
+  pub said : saidOf distinct ≡ says 0xc9ca_cbcc_cdce_cfd0 0xd1d2_d3d4 (upFrom 213 16)
+  pub image : imageOf distinct ≡ headedBy 0 (zeros 4) (optionsWith (upFrom 201 12 ++ zeros 16) [])
+  -- 33 bytes have room for an option 90 in full form, 32 have not
+  pub covers-33 : coverSize (zeros 33) (record { at = 0; counter = 0; id = 0; cut = 33; gap = 0 }) (zeros 33) ≡ 33
+  pub covers-32 : coverSize (zeros 32) (record { at = 0; counter = 0; id = 0; cut = 32; gap = 0 }) (zeros 32) ≡ 0
+  -- what a seal writes, and where
+  pub fields-put : fieldsPut (zeros 28) 0xc9ca_cbcc_cdce_cfd0 0xd1d2_d3d4 ≡ upFrom 201 12 ++ zeros 16
+  pub mac-put : macPut (zeros 28) (upFrom 213 16) ≡ zeros 12 ++ upFrom 213 16
+  pub sealed : sealedWith distinctAuth (upFrom 101 28) distinct ≡ distinctOf (optionsWith (upFrom 101 28) someRelay)
+  -- what a relay may make of it
+  pub relay-replaces : Permitted distinct (relayedOf (optionsWith (upFrom 201 28) (82 ∷ 1 ∷ 7 ∷ [])))
+  pub relay-removes : Permitted distinct (relayedOf (optionsWith (upFrom 201 28) []))
+  pub relay-adds : Permitted (distinctOf (90 ∷ 0 ∷ 255 ∷ [])) (relayedOf (90 ∷ 0 ∷ 82 ∷ 1 ∷ 7 ∷ 255 ∷ []))
+  -- the longest body, and the largest byte
+  pub relay-body-255 : RelayBody (zeros 255)
+  pub relay-body-256 : RelayBody (zeros 256) → ⊥
+  pub byte-255 : Bytes (255 ∷ [])
+  pub byte-256 : Bytes (256 ∷ []) → ⊥
+  -- a message for each number: 240 bytes are too few, 241 are not
+  pub number-0 : formNumber (formOf distinct) ≡ 0
+  pub number-2 : formNumber (formOf (distinctOf [])) ≡ 2
+  pub number-3 : formNumber (formOf (upFrom 1 241)) ≡ 3
+  pub number-4 : formNumber (formOf (distinctOf (12 ∷ 2 ∷ 90 ∷ []))) ≡ 4
+  pub number-5 : formNumber (formOf (distinctOf (255 ∷ []))) ≡ 5
+  pub number-6 : formNumber (formOf (distinctOf (90 ∷ 0 ∷ 90 ∷ 0 ∷ 255 ∷ []))) ≡ 6
+  pub number-7 : formNumber (formOf (distinctOf (90 ∷ 0 ∷ 82 ∷ 0 ∷ 82 ∷ 0 ∷ 255 ∷ []))) ≡ 7
+  pub number-8 : formNumber (formOf (distinctOf (90 ∷ 0 ∷ 255 ∷ []))) ≡ 8
+  pub number-9 : formNumber (formOf (distinctOf (90 ∷ 11 ∷ 1 ∷ 1 ∷ 0 ∷ (upFrom 1 8 ++ (255 ∷ []))))) ≡ 9

@@ -5,14 +5,14 @@ use mathlib.Core.Path.{_≡_}
 use mathlib.Core.Logic.{_≢_, _⊎_, _↔_}
 use mathlib.Core.List.{List, [], _∷_, _++_}
 use lib.ListN.{length, take, drop}
-use Rattle.refusal.specs.Number.{numberOf}
+use Rattle.refusal.specs.Number.{numberOf, done}
 use Rattle.refusal.specs.declared.Refusal.{Refusal}
 use Rattle.refusal.specs.declared.Refusal.the-variants.{UnsoundBook, MessageSize, WrongCookie, BrokenOptions, NoAuthentication, RepeatedAuthentication, RelayInformation, OtherAuthentication, RequestForm, UnknownSecret, Replay, WrongMac, CounterSpent, TooLong, MalformedCard, NoRoomForCard, NoRoomForRows}
 use Rattle.dhcp_message.specs.Layout.{messageLeast, messageMost, headerSize, cookieAt, magicCookie, relayCode, authCode, fullLength, requestLength, delayed}
 use Rattle.dhcp_message.specs.Bytes.{Bytes}
 use Rattle.dhcp_message.specs.Options.{Token, pad, opt, Reads}
 use Rattle.dhcp_message.specs.Message.{count, Passes27}
-use Rattle.dhcp_message.specs.Said.{formOf}
+use Rattle.dhcp_message.specs.Said.{formOf, formNumber}
 use Rattle.dhcp_message.specs.declared.Auth.{Auth}
 use Rattle.dhcp_message.specs.declared.Form.the-variants.{Refused, Full}
 
@@ -76,8 +76,11 @@ Applies NoRoomForRows m = ⊥
 abbrev pub NoneBelow : ℕ → List ℕ → Type 0
 NoneBelow n m = (k : Refusal) → numberOf k < n → Applies k m → ⊥
 
--- of a byte string: refused with the lowest number that applies; in full form where none does; and it passes 2 to 7 where none of these does
+-- of a byte string: its number is the lowest that applies, and 0 where none does; it is refused with that name, or in full form; and it passes
+-- 2 to 7 where none of these applies
 pub record LowestGiven : Type 0 where
+  pub number : (m : List ℕ) → Bytes m → (r : Refusal) → (formNumber (formOf m) ≡ numberOf r) ↔ (Applies r m × NoneBelow (numberOf r) m)
+  pub number-0 : (m : List ℕ) → Bytes m → (formNumber (formOf m) ≡ done) ↔ ((k : Refusal) → Applies k m → ⊥)
   pub refused : (m : List ℕ) → Bytes m → (r : Refusal) → (formOf m ≡ Refused r) ↔ (Applies r m × NoneBelow (numberOf r) m)
   pub full : (m : List ℕ) → Bytes m → ((a : Auth) × (formOf m ≡ Full a)) ↔ ((k : Refusal) → Applies k m → ⊥)
   pub passes : (m : List ℕ) → Bytes m → Passes27 m ↔ NoneBelow (numberOf OtherAuthentication) m

@@ -1,5 +1,6 @@
--- A permitted relay change (document 01; RFC 3118, section 3, names what a relay agent may alter), any number of them, and what they keep.
-use Prim.Native.Nat.{ℕ, _≤_}
+-- A permitted relay change (document 01; RFC 3118, section 3, names what a relay agent may alter), any number of them, what they keep, and that
+-- all that document 01 lets a relay do is permitted.
+use Prim.Native.Nat.{ℕ, _+_, _≤_}
 use mathlib.Core.Path.{_≡_}
 use mathlib.Core.List.{List, [], _∷_, _++_}
 use lib.ListN.{length, take, drop}
@@ -55,3 +56,25 @@ pub record Kept (m n : List ℕ) : Type 0 where
 pub record RelayKeeps : Type 0 where
   pub once : (m n : List ℕ) → Permitted m n → Kept m n
   pub often : (m n : List ℕ) → Relayed m n → Kept m n
+
+-- a message may get these bytes as its options, with whatever hops and giaddr a relay sets
+abbrev pub AnyHeader : List ℕ → List ℕ → Type 0
+AnyHeader m options =
+    (hops giaddr : List ℕ) → length hops ≡ hopsSize → Bytes hops → length giaddr ≡ giaddrSize → Bytes giaddr
+    → Permitted m (headWith hops giaddr (take headerSize m) ++ options)
+
+-- the same where the result fits
+abbrev pub WhereFits : List ℕ → List ℕ → Type 0
+WhereFits m options = headerSize + length options ≤ messageMost → AnyHeader m options
+
+-- of a message that passes 2 to 7: its options as they are; any option 82 right before End where there is none; any other body for the one there;
+-- and that one taken out
+pub record RelayMay : Type 0 where
+  pub keep : (m : List ℕ) → Bytes m → Passes27 m → AnyHeader m (drop headerSize m)
+  pub add : (m : List ℕ) → Passes27 m → (tokens : List Token) (rest body : List ℕ) → Reads (drop headerSize m) tokens rest → count relayCode tokens ≡ 0
+      → length body ≤ bodyMost → Bytes body → WhereFits m (encode tokens ++ (relayCode ∷ length body ∷ (body ++ (endCode ∷ rest))))
+  pub replace : (m : List ℕ) → Passes27 m → (front : List Token) (old : List ℕ) (back : List Token) (rest body : List ℕ)
+      → Reads (drop headerSize m) (front ++ (opt relayCode old ∷ back)) rest → length body ≤ bodyMost → Bytes body
+      → WhereFits m (encode front ++ (relayCode ∷ length body ∷ (body ++ (encode back ++ (endCode ∷ rest)))))
+  pub remove : (m : List ℕ) → Passes27 m → (front : List Token) (old : List ℕ) (back : List Token) (rest : List ℕ)
+      → Reads (drop headerSize m) (front ++ (opt relayCode old ∷ back)) rest → AnyHeader m (encode front ++ (encode back ++ (endCode ∷ rest)))

@@ -7,6 +7,7 @@ use mathlib.Core.List.{List}
 use mathlib.Core.Option.{Option, none, some}
 use lib.ListN.{length, take, drop, getD}
 use lib.Dec.{eqb}
+use Rattle.refusal.specs.Number.{numberOf, done}
 use Rattle.refusal.specs.declared.Refusal.{Refusal}
 use Rattle.refusal.specs.declared.Refusal.the-variants.{OtherAuthentication, RequestForm}
 use Rattle.dhcp_message.specs.Layout.{relayCode, authCode, lengthAt, methodAt, counterAt, secretIdAt, macAt, macSize, fullLength, requestLength, delayed}
@@ -67,6 +68,11 @@ formIn (passed ts rest) = formSaid (placesOf ts) (saidBy (optionOf authCode ts))
 -- the lowest of 2 to 9 that applies, or what the full form says and where
 unfoldable pub formOf : List ℕ → Form
 formOf m = formIn (checkedOf m)
+
+-- the number of a form: that of its refusal, or 0
+abbrev pub formNumber : Form → ℕ
+formNumber (Refused r) = numberOf r
+formNumber (Full a) = done
 
 -- what a form says of a message: counter and id as they stand there, and the 16 bytes of the MAC
 abbrev pub formSays : List ℕ → Form → Said
