@@ -9,7 +9,7 @@ use Rattle.refusal.specs.declared.Refusal.the-variants.{MessageSize, NoAuthenti
 use Rattle.dhcp_message.specs.Layout.{magicCookie}
 use Rattle.dhcp_message.specs.Bytes.{zeros}
 use Rattle.dhcp_message.specs.Image.{headWith}
-use Rattle.dhcp_message.specs.Bench.{someMac}
+use Rattle.dhcp_message.specs.Bench.{someMac, upFrom}
 use Rattle.key_book.specs.Book.{Book, Sound, bookOf}
 use Rattle.delayed_auth.specs.declared.Verdict.the-variants.{Accepted, Refused}
 use Rattle.delayed_auth.specs.declared.Sealing.the-variants.{Sealed, Unsealed}
@@ -39,13 +39,8 @@ changedB = bookOf (idA ∷ idB ∷ []) (4 ∷ 2 ∷ []) (1 ∷ 2 ∷ 3 ∷ 4 ∷
 
 -- ---- messages
 
--- so many bytes, each one more than the one before
-abbrev pub counting : ℕ → ℕ → List ℕ
-counting n zero = []
-counting n (suc k) = n ∷ counting (suc n) k
-
 abbrev pub header : List ℕ
-header = counting 1 236 ++ magicCookie
+header = upFrom 1 236 ++ magicCookie
 
 -- option 90 with these 8 bytes of the counter, 4 of the id and 16 of the MAC
 abbrev pub auth : List ℕ → List ℕ → List ℕ → List ℕ
