@@ -9,7 +9,8 @@ use Rattle.book_card.specs.Writing.{rowsFrom, rowsOf, writeOf, written}
 use Rattle.book_card.specs.Examples.{Example1, OrderedBytes, Example2}
 
 pub example-1 : Example1
-unfolding allBelow sized ascending keySizes sound keyFits keyIn le value numberAt recordOf rowRecord close rowRecords cardOf frontOf frontFrom rowsInFront readCard slotOf slotsOf laid loaded readOf rowsIn readBook rowsFrom rowsOf writeOf written
+unfolding allBelow sized ascending keySizes sound keyFits keyIn le value numberAt recordOf rowRecord close rowRecords cardOf
+    frontOf frontFrom rowsInFront readCard slotOf slotsOf laid loaded readOf rowsIn readBook rowsFrom rowsOf writeOf written
 example-1 = record { card = refl; size = refl; written-size = refl; written-bytes = refl; read-back = refl; read-book = refl }
 
 pub ordered-bytes : OrderedBytes
