@@ -229,9 +229,16 @@ card-says s h rows = (
   λ c. ap (λ (x : List ℕ). cardIn (rowsInFront x)) (c .1) ∙ ap cardIn (reads-card rows (c .0)),
 )
 
-pub malformed-says : MalformedSays
-malformed-says s h = on (readCard s) refl
+-- bytes of which no rows are read read as none
+none-read : (s : List ℕ) → ((rows : List Row) → readCard s ≡ some rows → ⊥) → readCard s ≡ none
+none-read s k = on (readCard s) refl
   where
-    on : (o : Option (List Row)) → readCard s ≡ o → (readCard s ≡ none) ↔ ((rows : List Row) → InOrder rows → s ≡ cardOf rows → ⊥)
-    on none e = (λ _ rows o c. let q = card-says s h rows .1 (o, c) in let z : _≡_ {A = ℕ} 0 1 = cc in omega arith, λ _. e)
-    on (some rows) e = (λ q. absurd (let z : _≡_ {A = ℕ} 0 1 = cc in omega arith), λ f. let c = card-says s h rows .0 e in absurd (f rows (c .0) (c .1)))
+    on : (o : Option (List Row)) → readCard s ≡ o → readCard s ≡ none
+    on none e = e
+    on (some rows) e = absurd (k rows e)
+
+pub malformed-says : MalformedSays
+malformed-says s h = (
+  λ e rows o c. let q = card-says s h rows .1 (o, c) in let z : _≡_ {A = ℕ} 0 1 = cc in omega arith,
+  λ f. none-read s (λ rows e. let c = card-says s h rows .0 e in f rows (c .0) (c .1)),
+)
