@@ -2,7 +2,6 @@
 -- the card of those rows, in order.
 -- By induction on the rows one way, and on the rows still allowed the other way; each step is the record in front (proofs/Shape.antt).
 use mathlib.Core.Path.{_≡_, refl, sym, ap, ap₂, _∙_}
-use mathlib.Core.Logic.{_↔_}
 use mathlib.Core.Bool.{Bool, true, false, cond}
 use mathlib.Core.Option.{Option, none, some}
 use mathlib.Core.List.{List, [], _∷_, _++_, append-assoc, append-nil}
