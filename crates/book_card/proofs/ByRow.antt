@@ -5,13 +5,13 @@ use mathlib.Core.Option.{some}
 use mathlib.Core.List.{List, _++_, map}
 use Prim.Native.Nat.{ℕ, suc, _+_, _-_, _*_, _≤_, _<_}
 use native.Mathlib.Omega.{arith}
-use lib.ListN.{length, getD, drop, replicate, length-append, length-replicate, length-map, List·getD-append, getD-replicate}
+use lib.ListN.{length, getD, drop, replicate, length-map, List·getD-append, getD-replicate}
 use lib.Seq.{getD-drop, getD-append-add}
 use Rattle.key_book.specs.Limits.{slotSize}
 use Rattle.key_book.specs.Book.{Book, Sized}
 use Rattle.book_card.specs.Card.{Row, cardOf, noRow, InOrder}
 use Rattle.book_card.specs.Reader.{readCard}
-use Rattle.book_card.specs.Reading.{slotOf, slotsOf, laid, loaded, readBook}
+use Rattle.book_card.specs.Reading.{slotOf, slotsOf, laid, loaded}
 use Rattle.book_card.specs.Laws.{RowSet, LeftFrom, RowsLeft, RowsRead, ReadSays}
 use Rattle.book_card.proofs.Says.{card-says}
 use Rattle.book_card.proofs.Loads.{Fit, slot-length, slots-length, slots-at}
@@ -50,7 +50,8 @@ slot-zeros : (key : List ℕ) (i : ℕ) → length key ≤ i → i < slotSize �
 unfolding slotOf
 slot-zeros key i h l =
     let d : length key + (i - length key) ≡ i = omega arith in
-    ap (λ (m : ℕ). getD (key ++ replicate (slotSize - length key) 0) m 0) (sym d) ∙ getD-append-add key (replicate (slotSize - length key) 0) (i - length key) 0
+    ap (λ (m : ℕ). getD (key ++ replicate (slotSize - length key) 0) m 0) (sym d)
+    ∙ getD-append-add key (replicate (slotSize - length key) 0) (i - length key) 0
     ∙ getD-replicate (slotSize - length key) (i - length key) 0 0 (omega arith)
 
 module _ (b : Book) (z : Sized b) (rows : List Row) (o : InOrder rows) (room : length rows ≤ length (b .ids)) where

@@ -13,7 +13,8 @@ use lib.Seq.{drop-drop}
 use Rattle.key_book.specs.Limits.{rowsMost}
 use Rattle.book_card.specs.Numbers.{Bytes}
 use Rattle.book_card.specs.Card.{Row}
-use Rattle.book_card.specs.Reader.{keyAt, closeSize, frontOf, rowFront, End, closed, fault, FrontRows, ended, onto, stepFrom, frontFrom, rowsInFront, rowsBy, cardIn, readCard, countedFrom}
+use Rattle.book_card.specs.Reader.{keyAt, closeSize, frontOf, rowFront, End, closed, fault, FrontRows}
+use Rattle.book_card.specs.Reader.{ended, onto, stepFrom, frontFrom, rowsInFront, rowsBy, cardIn, readCard, countedFrom}
 use Rattle.book_card.specs.declared.Front.{Front}
 use Rattle.book_card.specs.declared.Front.the-variants.{Broken, Row as RowFront, Close}
 use Rattle.book_card.specs.declared.Judged.the-variants.{Malformed, Rows as Counted}
@@ -48,7 +49,8 @@ module _ (card : List ℕ) (at rows low : ℕ) (j : Judging card at rows low) wh
   abbrev rest : List ℕ
   rest = drop at card
 
-  on-front : (f : Front) → f ≡ frontOf rest → countedFrom rows (cardIn (stepFrom (goOn (rowsMost - rows) rest) low rows rest f)) ≡ countedFrom 0 (readCard card)
+  on-front : (f : Front) → f ≡ frontOf rest
+      → countedFrom rows (cardIn (stepFrom (goOn (rowsMost - rows) rest) low rows rest f)) ≡ countedFrom 0 (readCard card)
   on-front f e = ap (λ (x : Front). countedFrom rows (cardIn (stepFrom (goOn (rowsMost - rows) rest) low rows rest x))) e
       ∙ ap (λ (f : FrontRows). countedFrom rows (cardIn f)) (sym (front-step (rowsMost - rows) low rows rest)) ∙ j .rest
 
@@ -64,7 +66,9 @@ module _ (card : List ℕ) (at rows low : ℕ) (j : Judging card at rows low) wh
       judged-number k = rw (length-drop at card, eq-eqb (length card - at) closeSize h, ne-eqb m rows k) at (on-front (Close m) e)
 
       pub judged-rows : m ≡ rows → Counted rows ≡ countedFrom 0 (readCard card)
-      judged-rows k = ap Counted (sym (add-zero rows)) ∙ (rw (length-drop at card, eq-eqb (length card - at) closeSize h, eq-eqb m rows k) at (on-front (Close m) e))
+      judged-rows k =
+          ap Counted (sym (add-zero rows))
+          ∙ (rw (length-drop at card, eq-eqb (length card - at) closeSize h, eq-eqb m rows k) at (on-front (Close m) e))
 
   module _ (id size : ℕ) (e : RowFront id size ≡ frontOf rest) where
     pub row-within : Bytes card → at + (keyAt + size) ≤ length card
@@ -108,7 +112,8 @@ module _ (card : List ℕ) (at rows low : ℕ) (j : Judging card at rows low) wh
             within = omega arith;
             few = omega arith;
             low-fits = omega arith;
-            rest = ap (λ (x : List ℕ). countedFrom (rows + 1) (cardIn (frontFrom (rowsMost - (rows + 1)) (id + 1) (rows + 1) x))) (ap (λ (n : ℕ). drop n card) (sym p) ∙ sym (drop-drop (keyAt + size) at card))
+            rest = ap (λ (x : List ℕ). countedFrom (rows + 1) (cardIn (frontFrom (rowsMost - (rows + 1)) (id + 1) (rows + 1) x)))
+                (ap (λ (n : ℕ). drop n card) (sym p) ∙ sym (drop-drop (keyAt + size) at card))
                 ∙ ap₂ (λ (x y : ℕ). countedFrom (rows + 1) (cardIn (frontFrom (rowsMost - (rows + 1)) x y (drop (keyAt + size) rest)))) (sym r) (sym q)
                 ∙ counted-onto rows (rowFront rest size) o ∙ s;
           }

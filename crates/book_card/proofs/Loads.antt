@@ -14,15 +14,17 @@ use Rattle.key_book.specs.Limits.{slotSize}
 use Rattle.key_book.specs.Book.{Book, bookOf, Sized, sized}
 use Rattle.key_book.proofs.Says.{sized-says}
 use Rattle.book_card.specs.Numbers.{numberAt, Bytes}
-use Rattle.book_card.specs.Card.{lengthSize, idSize, counterSize, Row, rowRecord, rowRecords, close, cardOf, noRow, InOrder}
-use Rattle.book_card.specs.Reader.{bodyAt, receivedAt, sentAt, keyAt, readCard, countedFrom}
+use Rattle.book_card.specs.Card.{counterSize, Row, rowRecord, rowRecords, close, cardOf, noRow, InOrder}
+use Rattle.book_card.specs.Reader.{receivedAt, sentAt, keyAt, frontOf, readCard, countedFrom}
 use Rattle.book_card.specs.Reading.{slotOf, slotsOf, laid, loaded, readAs, readOf, rowsIn, readBy, readBook}
 use Rattle.book_card.specs.Stores.{storedAt}
+use Rattle.book_card.specs.declared.Front.{Front}
+use Rattle.book_card.specs.declared.Front.the-variants.{Row as RowFront}
 use Rattle.book_card.specs.declared.Judged.the-variants.{Malformed, Rows as Counted}
 use Rattle.book_card.specs.declared.ReadAnswer.{ReadAnswer}
 use Rattle.book_card.specs.declared.ReadAnswer.the-variants.{Refused, Rows}
 use Rattle.book_card.proofs.Loops.{Storing, storing-start, storing-run, storing-turn, storing-end}
-use Rattle.book_card.proofs.Shape.{here, there, RowRead, row-read}
+use Rattle.book_card.proofs.Shape.{there, RowRead, row-read, front-of-row}
 use Rattle.book_card.proofs.Says.{card-says}
 use Rattle.book_card.proofs.Writes.{stored-then, stored-front}
 
@@ -49,7 +51,9 @@ module _ (card : List ℕ) (h : Bytes card) where
 
 pub slot-length : (key : List ℕ) → length key ≤ slotSize → length (slotOf key) ≡ slotSize
 unfolding slotOf
-slot-length key h = length-append key (replicate (slotSize - length key) 0) ∙ ap (λ (n : ℕ). length key + n) (length-replicate (slotSize - length key) 0) ∙ omega arith
+slot-length key h =
+    length-append key (replicate (slotSize - length key) 0) ∙ ap (λ (n : ℕ). length key + n) (length-replicate (slotSize - length key) 0)
+    ∙ omega arith
 
 -- the slots of rows whose keys fit
 abbrev pub Fit : List Row → Type 0
@@ -65,18 +69,21 @@ slots-length (r ∷ rows) h =
     let m = mul-suc slotSize (length rows) in
     omega arith
 
-pub slots-at : (rows : List Row) (k : ℕ) → Fit rows → k < length rows → drop (slotSize * k) (slotsOf rows) ≡ slotOf (getD rows k noRow .key) ++ drop (slotSize * suc k) (slotsOf rows)
+pub slots-at : (rows : List Row) (k : ℕ) → Fit rows → k < length rows
+    → drop (slotSize * k) (slotsOf rows) ≡ slotOf (getD rows k noRow .key) ++ drop (slotSize * suc k) (slotsOf rows)
 unfolding slotsOf
 slots-at [] k h l = absurd (omega arith)
 slots-at (r ∷ rows) zero h l =
     let e = slot-length (r .key) (h 0 (omega arith)) in
     let z : slotSize * 1 ≡ slotSize = omega arith in
-    ap (λ (x : List ℕ). slotOf (r .key) ++ x) (sym (ap (λ (n : ℕ). drop n (slotOf (r .key) ++ slotsOf rows)) z ∙ drop-at (slotOf (r .key)) (slotsOf rows) slotSize e))
+    ap (λ (x : List ℕ). slotOf (r .key) ++ x)
+    (sym (ap (λ (n : ℕ). drop n (slotOf (r .key) ++ slotsOf rows)) z ∙ drop-at (slotOf (r .key)) (slotsOf rows) slotSize e))
 slots-at (r ∷ rows) (suc k) h l =
     let e = slot-length (r .key) (h 0 (omega arith)) in
     let past : (n : ℕ) → drop (slotSize * suc n) (slotOf (r .key) ++ slotsOf rows) ≡ drop (slotSize * n) (slotsOf rows) =
     λ n. ap (λ (m : ℕ). drop m (slotOf (r .key) ++ slotsOf rows)) (let q : slotSize * suc n ≡ slotSize + slotSize * n = omega arith in q)
-    ∙ sym (drop-drop (slotSize * n) slotSize (slotOf (r .key) ++ slotsOf rows)) ∙ ap (drop (slotSize * n)) (drop-at (slotOf (r .key)) (slotsOf rows) slotSize e) in
+    ∙ sym (drop-drop (slotSize * n) slotSize (slotOf (r .key) ++ slotsOf rows))
+    ∙ ap (drop (slotSize * n)) (drop-at (slotOf (r .key)) (slotsOf rows) slotSize e) in
     past k ∙ slots-at rows k (λ j m. h (suc j) (omega arith)) (omega arith) ∙ ap (λ (x : List ℕ). slotOf (getD rows k noRow .key) ++ x) (sym (past (suc k)))
 
 -- so many of a card's n rows are set, from the card up to `at`; b is the book as lent, c as it is now
@@ -97,17 +104,18 @@ pub record Filling (card : List ℕ) (n : ℕ) (b c : Book) (at row : ℕ) : Typ
 pub record Next (card : List ℕ) (at : ℕ) (r : Row) : Type 0 where
   pub long : at + (keyAt + length (r .key)) ≤ length card
   pub key-to : length (r .key) ≤ slotSize
-  pub size : numberAt card at lengthSize ≡ keyAt - lengthSize + length (r .key)
-  pub id : numberAt card (at + bodyAt) idSize ≡ r .id
   pub received : numberAt card (at + receivedAt) counterSize ≡ r .received
   pub sent : numberAt card (at + sentAt) counterSize ≡ r .sent
   pub key : take (length (r .key)) (drop (at + keyAt) card) ≡ r .key
+  pub front : frontOf (drop at card) ≡ RowFront (r .id) (length (r .key))
 
 -- one list more elements of which are set from the rows
-set-next : (f : Row → ℕ) → f noRow ≡ 0 → (rows : List Row) (old new : List ℕ) (row v : ℕ) → row < length rows → v ≡ f (getD rows row noRow) → Storing (map f rows) old 0 new row
+set-next : (f : Row → ℕ) → f noRow ≡ 0 → (rows : List Row) (old new : List ℕ) (row v : ℕ) → row < length rows → v ≡ f (getD rows row noRow)
+    → Storing (map f rows) old 0 new row
     → Storing (map f rows) old 0 (set new row v) (row + 1)
 set-next f z rows old new row v h e s =
-    storing-turn (map f rows) old 0 new row row v s (sym (zero-add row)) (rw (length-map rows f) h) (e ∙ sym (List·getD-map f rows row noRow) ∙ ap (getD (map f rows) row) z)
+    storing-turn (map f rows) old 0 new row row v s (sym (zero-add row)) (rw (length-map rows f) h)
+    (e ∙ sym (List·getD-map f rows row noRow) ∙ ap (getD (map f rows) row) z)
 
 pub filling-start : (card : List ℕ) (n : ℕ) (b : Book) → CardRows card n → Sized b → n ≤ length (b .ids) → Filling card n b b 0 0
 unfolding cardOf
@@ -126,11 +134,10 @@ filling-start card n b q z m =
       sent = storing-start _ (b .sent) 0;
     }
 
--- one turn, by what the code reads: every place that it reads or writes is there
-pub record Turn (card : List ℕ) (c : Book) (at row : ℕ) : Type 0 where
-  pub long : at + (lengthSize + numberAt card at lengthSize) ≤ length card
-  pub size-from : keyAt - lengthSize ≤ numberAt card at lengthSize
-  pub size-to : numberAt card at lengthSize ≤ keyAt - lengthSize + slotSize
+-- one turn, by the size of the key in front: every place that it reads or writes is there
+pub record Turn (card : List ℕ) (c : Book) (at row size : ℕ) : Type 0 where
+  pub long : at + (keyAt + size) ≤ length card
+  pub size-to : size ≤ slotSize
   pub in-ids : row < length (c .ids)
   pub in-lengths : row < length (c .lengths)
   pub in-store : slotSize * row + slotSize ≤ length (c .store)
@@ -150,12 +157,14 @@ module _ {card : List ℕ} {n : ℕ} {b c : Book} {at row : ℕ} (f : Filling ca
   abbrev after : List ℕ
   after = rowRecords (drop (suc row) rows) ++ close (length rows)
 
-  read : RowRead (drop at card) r after
+  at-row : drop at card ≡ rowRecord r ++ after
   unfolding rowRecords
-  read =
-      let d = drop-cons rows row noRow here-row in
-      let p : drop at card ≡ rowRecord r ++ after = f .place ∙ ap (λ (x : List Row). rowRecords x ++ close (length rows)) d ∙ append-assoc (rowRecord r) (rowRecords (drop (suc row) rows)) (close (length rows)) in
-      rw p (row-read r after (f .holds .order .fit row here-row))
+  at-row =
+      f .place ∙ ap (λ (x : List Row). rowRecords x ++ close (length rows)) (drop-cons rows row noRow here-row)
+      ∙ append-assoc (rowRecord r) (rowRecords (drop (suc row) rows)) (close (length rows))
+
+  read : RowRead (drop at card) r after
+  read = rw at-row (row-read r after (f .holds .order .fit row here-row))
 
   next-row : Next card at r
   next-row =
@@ -163,89 +172,96 @@ module _ {card : List ℕ} {n : ℕ} {b c : Book} {at row : ℕ} (f : Filling ca
       let l = g .long in
       let d = length-drop at card in
       let w = f .at-within in
+      let fits = f .holds .order .fit row here-row in
       record {
         long = omega arith;
-        key-to = f .holds .order .fit row here-row .key-to;
-        size = here card at lengthSize _ refl ∙ g .size;
-        id = there card at bodyAt idSize _ refl ∙ g .id;
+        key-to = fits .key-to;
         received = there card at receivedAt counterSize _ refl ∙ g .received;
         sent = there card at sentAt counterSize _ refl ∙ g .sent;
         key = ap (take (length (r .key))) (sym (drop-drop keyAt at card)) ∙ g .key;
+        front = ap frontOf at-row ∙ front-of-row r after fits;
       }
 
-  pub turn : Turn card c at row
-  turn =
-      let x = next-row in
-      let l = x .long in
-      let t = x .key-to in
-      let s = x .size in
-      let m = f .room in
-      let z = f .sizes in
-      let e₁ = f .ids .long in
-      let e₂ = f .lengths .long in
-      let e₃ = f .store .long in
-      let e₄ = f .received .long in
-      let e₅ = f .sent .long in
-      record {
-        long = omega arith;
-        size-from = omega arith;
-        size-to = omega arith;
-        in-ids = omega arith;
-        in-lengths = omega (arith, z .lengths-agree);
-        in-store = omega (arith, z .store-agrees);
-        in-received = omega (arith, z .received-agree);
-        in-sent = omega (arith, z .sent-agree);
-      }
+  -- a row stands in front, and nothing else does: what the code finds there is the next row's
+  pub row-in-front : (x : Front) → x ≡ frontOf (drop at card) → x ≡ RowFront (r .id) (length (r .key))
+  row-in-front x e = e ∙ next-row .front
 
-  -- the row set in all five lists, by its fields
-  set-row : (size id received sent : ℕ) (store₁ store₂ : List ℕ) → size ≡ length (r .key) → id ≡ r .id → received ≡ r .received → sent ≡ r .sent
-      → store₁ ≡ storedAt (c .store) (slotSize * row) (take size (drop (at + keyAt) card)) → store₂ ≡ storedAt store₁ (slotSize * row + size) (replicate (slotSize - size) 0)
-      → Filling card n b (bookOf (set (c .ids) row id) (set (c .lengths) row size) store₂ (set (c .received) row received) (set (c .sent) row sent) 0) (at + keyAt + size) (row + 1)
-  unfolding slotOf
-  set-row size id received sent store₁ store₂ es ei er en e₁ e₂ =
-      let x = next-row in
-      let l = x .long in
-      let t = x .key-to in
-      let g = read in
-      let lr = here-row in
-      let p : at + (keyAt + length (r .key)) ≡ at + keyAt + size = omega arith in
-      let k₁ : store₁ ≡ storedAt (c .store) (slotSize * row) (r .key) = e₁ ∙ ap (storedAt (c .store) (slotSize * row)) (ap (λ (m : ℕ). take m (drop (at + keyAt) card)) es ∙ x .key) in
-      let k₂ : store₂ ≡ storedAt store₁ (slotSize * row + size) (replicate (slotSize - length (r .key)) 0) = e₂ ∙ ap (λ (m : ℕ). storedAt store₁ (slotSize * row + size) (replicate (slotSize - m) 0)) es in
-      let s₂ : store₂ ≡ storedAt (c .store) (slotSize * row) (slotOf (r .key)) = stored-then (c .store) store₁ store₂ (r .key) _ (slotSize * row) (slotSize * row + size) k₁ (ap (λ (m : ℕ). slotSize * row + m) es) k₂ in
-      let fit : Fit rows = λ k m. f .holds .order .fit k m .key-to in
-      let sl = slot-length (r .key) t in
-      let tl = slots-length rows fit in
-      let m₁ : slotSize * row + length (slotOf (r .key)) ≡ slotSize * suc row = omega arith in
-      let m₂ : slotSize * row + length (slotOf (r .key)) ≡ slotSize * (row + 1) = omega arith in
-      let st : Storing (slotsOf rows) (b .store) 0 (storedAt (c .store) (slotSize * row) (slotOf (r .key))) (slotSize * row + length (slotOf (r .key))) =
-      storing-run (slotsOf rows) (b .store) 0 (c .store) (slotOf (r .key)) (slotSize * row) (slotSize * row) (f .store) (sym (zero-add (slotSize * row))) (omega arith)
-      (slots-at rows row fit lr ∙ ap (λ (m : ℕ). slotOf (r .key) ++ drop m (slotsOf rows)) (sym m₁)) in
-      let sr : suc row ≡ row + 1 = omega arith in
-      record {
-        holds = f .holds;
-        sizes = f .sizes;
-        room = f .room;
-        within = omega arith;
-        at-within = omega arith;
-        place = ap (λ (m : ℕ). drop m card) (sym p) ∙ sym (drop-drop (keyAt + length (r .key)) at card) ∙ g .rest ∙ ap (λ (m : ℕ). rowRecords (drop m rows) ++ close (length rows)) sr;
-        ids = set-next (λ (r : Row). r .id) refl rows (b .ids) (c .ids) row id lr ei (f .ids);
-        lengths = set-next (λ (r : Row). length (r .key)) refl rows (b .lengths) (c .lengths) row size lr es (f .lengths);
-        store = rw (s₂, ← m₂) st;
-        received = set-next (λ (r : Row). r .received) refl rows (b .received) (c .received) row received lr er (f .received);
-        sent = set-next (λ (r : Row). r .sent) refl rows (b .sent) (c .sent) row sent lr en (f .sent);
-      }
+  -- the turn, by the row that the code finds in front
+  module _ (id size : ℕ) (e : RowFront id size ≡ frontOf (drop at card)) where
+    is-id : id ≡ r .id
+    is-id = let q = row-in-front (RowFront id size) e in cc
 
-  -- the same by what the code reads, v being the length field
-  pub filled : (v id received sent : ℕ) (store₁ store₂ : List ℕ) → v ≡ numberAt card at lengthSize → id ≡ numberAt card (at + bodyAt) idSize
-      → received ≡ numberAt card (at + receivedAt) counterSize → sent ≡ numberAt card (at + sentAt) counterSize
-      → store₁ ≡ storedAt (c .store) (slotSize * row) (take (v - (keyAt - lengthSize)) (drop (at + keyAt) card))
-      → store₂ ≡ storedAt store₁ (slotSize * row + (v - (keyAt - lengthSize))) (replicate (slotSize - (v - (keyAt - lengthSize))) 0)
-      → Filling card n b (bookOf (set (c .ids) row id) (set (c .lengths) row (v - (keyAt - lengthSize))) store₂ (set (c .received) row received) (set (c .sent) row sent) 0)
-      (at + keyAt + (v - (keyAt - lengthSize))) (row + 1)
-  filled v id received sent store₁ store₂ ev ei er es e₁ e₂ =
-      let x = next-row in
-      let s = x .size in
-      set-row (v - (keyAt - lengthSize)) id received sent store₁ store₂ (omega arith) (ei ∙ x .id) (er ∙ x .received) (es ∙ x .sent) e₁ e₂
+    is-size : size ≡ length (r .key)
+    is-size = let q = row-in-front (RowFront id size) e in cc
+
+    pub turn : Turn card c at row size
+    turn =
+        let x = next-row in
+        let l = x .long in
+        let t = x .key-to in
+        let s = is-size in
+        let m = f .room in
+        let z = f .sizes in
+        let e₁ = f .ids .long in
+        let e₂ = f .lengths .long in
+        let e₃ = f .store .long in
+        let e₄ = f .received .long in
+        let e₅ = f .sent .long in
+        record {
+          long = omega arith;
+          size-to = omega arith;
+          in-ids = omega arith;
+          in-lengths = omega (arith, z .lengths-agree);
+          in-store = omega (arith, z .store-agrees);
+          in-received = omega (arith, z .received-agree);
+          in-sent = omega (arith, z .sent-agree);
+        }
+
+    -- the row set in all five lists
+    pub filled : (received sent : ℕ) (store₁ store₂ : List ℕ)
+        → received ≡ numberAt card (at + receivedAt) counterSize → sent ≡ numberAt card (at + sentAt) counterSize
+        → store₁ ≡ storedAt (c .store) (slotSize * row) (take size (drop (at + keyAt) card))
+        → store₂ ≡ storedAt store₁ (slotSize * row + size) (replicate (slotSize - size) 0)
+        → Filling card n b (bookOf (set (c .ids) row id) (set (c .lengths) row size) store₂ (set (c .received) row received) (set (c .sent) row sent) 0)
+        (at + keyAt + size) (row + 1)
+    unfolding slotOf
+    filled received sent store₁ store₂ er en e₁ e₂ =
+        let x = next-row in
+        let l = x .long in
+        let t = x .key-to in
+        let lr = here-row in
+        let es = is-size in
+        let at-key = slotSize * row in
+        let p : at + (keyAt + length (r .key)) ≡ at + keyAt + size = omega arith in
+        let k₀ : take size (drop (at + keyAt) card) ≡ r .key = ap (λ (m : ℕ). take m (drop (at + keyAt) card)) es ∙ x .key in
+        let k₁ : store₁ ≡ storedAt (c .store) at-key (r .key) = e₁ ∙ ap (storedAt (c .store) at-key) k₀ in
+        let k₂ : store₂ ≡ storedAt store₁ (at-key + size) (replicate (slotSize - length (r .key)) 0) =
+        e₂ ∙ ap (λ (m : ℕ). storedAt store₁ (at-key + size) (replicate (slotSize - m) 0)) es in
+        let s₂ : store₂ ≡ storedAt (c .store) at-key (slotOf (r .key)) =
+        stored-then (c .store) store₁ store₂ (r .key) _ at-key (at-key + size) k₁ (ap (λ (m : ℕ). at-key + m) es) k₂ in
+        let fit : Fit rows = λ k m. f .holds .order .fit k m .key-to in
+        let sl = slot-length (r .key) t in
+        let tl = slots-length rows fit in
+        let m₁ : slotSize * row + length (slotOf (r .key)) ≡ slotSize * suc row = omega arith in
+        let m₂ : slotSize * row + length (slotOf (r .key)) ≡ slotSize * (row + 1) = omega arith in
+        let st : Storing (slotsOf rows) (b .store) 0 (storedAt (c .store) (slotSize * row) (slotOf (r .key))) (slotSize * row + length (slotOf (r .key))) =
+        storing-run (slotsOf rows) (b .store) 0 (c .store) (slotOf (r .key)) at-key at-key (f .store) (sym (zero-add at-key)) (omega arith)
+        (slots-at rows row fit lr ∙ ap (λ (m : ℕ). slotOf (r .key) ++ drop m (slotsOf rows)) (sym m₁)) in
+        let sr : suc row ≡ row + 1 = omega arith in
+        record {
+          holds = f .holds;
+          sizes = f .sizes;
+          room = f .room;
+          within = omega arith;
+          at-within = omega arith;
+          place = ap (λ (m : ℕ). drop m card) (sym p) ∙ sym (drop-drop (keyAt + length (r .key)) at card) ∙ read .rest
+              ∙ ap (λ (m : ℕ). rowRecords (drop m rows) ++ close (length rows)) sr;
+          ids = set-next (λ (r : Row). r .id) refl rows (b .ids) (c .ids) row id lr is-id (f .ids);
+          lengths = set-next (λ (r : Row). length (r .key)) refl rows (b .lengths) (c .lengths) row size lr es (f .lengths);
+          store = rw (s₂, ← m₂) st;
+          received = set-next (λ (r : Row). r .received) refl rows (b .received) (c .received) row received lr (er ∙ x .received) (f .received);
+          sent = set-next (λ (r : Row). r .sent) refl rows (b .sent) (c .sent) row sent lr (en ∙ x .sent) (f .sent);
+        }
 
 -- a list set from the front is laid over the old one
 laid-all : (vs old new : List ℕ) (i : ℕ) → Storing vs old 0 new i → length vs ≤ i → length vs ≤ length old → new ≡ laid vs old

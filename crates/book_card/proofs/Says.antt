@@ -2,7 +2,6 @@
 -- the card of those rows, in order.
 -- By induction on the rows one way, and on the rows still allowed the other way; each step is the record in front (proofs/Shape.antt).
 use mathlib.Core.Path.{_≡_, refl, sym, ap, ap₂, _∙_}
-use mathlib.Core.Logic.{_↔_}
 use mathlib.Core.Bool.{Bool, true, false, cond}
 use mathlib.Core.Option.{Option, none, some}
 use mathlib.Core.List.{List, [], _∷_, _++_, append-assoc, append-nil}
@@ -16,7 +15,8 @@ use lib.Seq.{take-append-seam}
 use Rattle.key_book.specs.Limits.{rowsMost}
 use Rattle.book_card.specs.Numbers.{Bytes}
 use Rattle.book_card.specs.Card.{Row, countSize, rowRecord, rowRecords, close, cardOf, RowFits, noRow, InOrder}
-use Rattle.book_card.specs.Reader.{keyAt, closeSize, frontOf, rowFront, End, closed, fault, FrontRows, ended, onto, stepFrom, frontFrom, rowsInFront, rowsBy, cardIn, readCard}
+use Rattle.book_card.specs.Reader.{keyAt, closeSize, frontOf, rowFront, End, closed, fault, FrontRows}
+use Rattle.book_card.specs.Reader.{ended, onto, stepFrom, frontFrom, rowsInFront, rowsBy, cardIn, readCard}
 use Rattle.book_card.specs.Laws.{FrontSays, CardSays, MalformedSays}
 use Rattle.book_card.specs.declared.Front.{Front}
 use Rattle.book_card.specs.declared.Front.the-variants.{Broken, Row as RowFront, Close}
@@ -45,7 +45,8 @@ after-ascends low (r ∷ rows) a j zero l h = absurd (omega arith)
 after-ascends low (r ∷ rows) a zero (suc k) l h = let t = after-at (suc (r .id)) rows (a .1 .1) k (omega arith) .0 in omega arith
 after-ascends low (r ∷ rows) a (suc j) (suc k) l h = after-ascends (suc (r .id)) rows (a .1 .1) j k (omega arith) (omega arith)
 
-ascends-after : (low : ℕ) (rows : List Row) → ((k : ℕ) → k < length rows → low ≤ getD rows k noRow .id) → ((k : ℕ) → k < length rows → RowFits (getD rows k noRow))
+ascends-after : (low : ℕ) (rows : List Row) → ((k : ℕ) → k < length rows → low ≤ getD rows k noRow .id)
+    → ((k : ℕ) → k < length rows → RowFits (getD rows k noRow))
     → ((j k : ℕ) → j < k → k < length rows → getD rows j noRow .id < getD rows k noRow .id) → After low rows
 unfolding After
 ascends-after low [] l f a = tt
@@ -53,7 +54,8 @@ ascends-after low (r ∷ rows) l f a = (
   l 0 (omega arith),
   (
     f 0 (omega arith),
-    ascends-after (suc (r .id)) rows (λ k h. a 0 (suc k) (omega arith) (omega arith)) (λ k h. f (suc k) (omega arith)) (λ j k m h. a (suc j) (suc k) (omega arith) (omega arith)),
+    ascends-after (suc (r .id)) rows (λ k h. a 0 (suc k) (omega arith) (omega arith)) (λ k h. f (suc k) (omega arith))
+        (λ j k m h. a (suc j) (suc k) (omega arith) (omega arith)),
   ),
 )
 
@@ -94,11 +96,13 @@ reads (r ∷ rows) (suc left) low n t a l =
     let u = rowRecords rows ++ t in
     let s = rowRecord r ++ u in
     let f = a .1 .0 in
+    let size = length (r .key) in
     let e : suc n + length rows ≡ n + suc (length rows) = omega arith in
     let d : left - length rows ≡ suc left - suc (length rows) = omega arith in
     ap (frontFrom (suc left) low n) (append-assoc (rowRecord r) (rowRecords rows) t)
     ∙ front-step (suc left) low n s ∙ ap (stepFrom (goOn (suc left) s) low n s) (front-of-row r u f)
-    ∙ ap (λ (b : Bool). cond b (ended fault s) (onto (rowFront s (length (r .key))) (frontFrom left (suc (r .id)) (suc n) (drop (keyAt + length (r .key)) s)))) (le-ltb (r .id) low (a .0))
+    ∙ ap (λ (b : Bool). cond b (ended fault s) (onto (rowFront s size) (frontFrom left (suc (r .id)) (suc n) (drop (keyAt + size) s))))
+    (le-ltb (r .id) low (a .0))
     ∙ ap₂ (λ (q : Row) (l : List ℕ). onto q (frontFrom left (suc (r .id)) (suc n) l)) (row-of-front r u f) (row-read r u f .rest)
     ∙ ap (onto r) (reads rows left (suc (r .id)) (suc n) t (a .1 .1) (omega arith))
     ∙ ap₂ (λ (x y : ℕ). ahead (r ∷ rows) (frontFrom x (lowAfter (suc (r .id)) rows) y t)) d e
@@ -114,8 +118,10 @@ unfolding rowsInFront cardOf
 reads-card rows o =
     let f = o .few in
     let z : 0 + length rows ≡ length rows = omega arith in
+    let left = rowsMost - length rows in
+    let low = lowAfter 0 rows in
     reads rows rowsMost 0 0 (close (length rows)) (in-order-after rows o) f
-    ∙ ap (ahead rows) (ap (λ (n : ℕ). frontFrom (rowsMost - length rows) (lowAfter 0 rows) n (close (length rows))) z ∙ reads-close (rowsMost - length rows) (lowAfter 0 rows) (length rows) (omega arith))
+    ∙ ap (λ (n : ℕ). ahead rows (frontFrom left low n (close (length rows)))) z ∙ ap (ahead rows) (reads-close left low (length rows) (omega arith))
     ∙ ap (λ (x : List Row). record { rows = x; ends = closed; rest = close (length rows) }) (append-nil rows)
 
 -- what the reader gives: at most `left` rows, in order, whose records the bytes begin with; behind them the close where they end closed
@@ -161,7 +167,8 @@ module _ (left low n : ℕ) (s : List ℕ) where
   good-step ih Broken g = good-fault left low n s
   good-step ih (Close m) g = on (eqb (length s) closeSize) refl (eqb m n) refl
     where
-      on : (t : Bool) → eqb (length s) closeSize ≡ t → (u : Bool) → eqb m n ≡ u → Good left low n s (cond t (cond u (ended closed s) (ended fault s)) (ended fault s))
+      on : (t : Bool) → eqb (length s) closeSize ≡ t → (u : Bool) → eqb m n ≡ u
+          → Good left low n s (cond t (cond u (ended closed s) (ended fault s)) (ended fault s))
       on false p u q = good-fault left low n s
       on true p false q = good-fault left low n s
       on true p true q = good-closed left low n m s g (eqb-true (length s) closeSize p) (eqb-true m n q)
@@ -192,7 +199,8 @@ front-says s h =
       bytes = g .bytes;
       most = λ rows rest p e.
           let q = reads rows rowsMost 0 0 rest (in-order-after rows p) (p .few) in
-          sym (ap (λ (x : List ℕ). take (length rows) (rowsInFront x .rows)) e ∙ ap (λ (x : FrontRows). take (length rows) (x .rows)) q ∙ take-append-seam rows _);
+          sym (ap (λ (x : List ℕ). take (length rows) (rowsInFront x .rows)) e
+          ∙ ap (λ (x : FrontRows). take (length rows) (x .rows)) q ∙ take-append-seam rows _);
       ends-closed = (
         λ c. g .bytes ∙ ap (λ (x : List ℕ). rowRecords (f .rows) ++ x) (g .closes c ∙ ap close z),
         λ e. ap (λ (x : List ℕ). rowsInFront x .ends) e ∙ ap (λ (x : FrontRows). x .ends) (reads-card (f .rows) o),
@@ -220,9 +228,16 @@ card-says s h rows = (
   λ c. ap (λ (x : List ℕ). cardIn (rowsInFront x)) (c .1) ∙ ap cardIn (reads-card rows (c .0)),
 )
 
-pub malformed-says : MalformedSays
-malformed-says s h = on (readCard s) refl
+-- bytes of which no rows are read read as none
+none-read : (s : List ℕ) → ((rows : List Row) → readCard s ≡ some rows → ⊥) → readCard s ≡ none
+none-read s k = on (readCard s) refl
   where
-    on : (o : Option (List Row)) → readCard s ≡ o → (readCard s ≡ none) ↔ ((rows : List Row) → InOrder rows → s ≡ cardOf rows → ⊥)
-    on none e = (λ _ rows o c. let q = card-says s h rows .1 (o, c) in let z : _≡_ {A = ℕ} 0 1 = cc in omega arith, λ _. e)
-    on (some rows) e = (λ q. absurd (let z : _≡_ {A = ℕ} 0 1 = cc in omega arith), λ f. let c = card-says s h rows .0 e in absurd (f rows (c .0) (c .1)))
+    on : (o : Option (List Row)) → readCard s ≡ o → readCard s ≡ none
+    on none e = e
+    on (some rows) e = absurd (k rows e)
+
+pub malformed-says : MalformedSays
+malformed-says s h = (
+  λ e rows o c. let q = card-says s h rows .1 (o, c) in let z : _≡_ {A = ℕ} 0 1 = cc in omega arith,
+  λ f. none-read s (λ rows e. let c = card-says s h rows .0 e in f rows (c .0) (c .1)),
+)

@@ -3,7 +3,7 @@ use mathlib.Core.Path.{_≡_}
 use mathlib.Core.Option.{none, some}
 use mathlib.Core.List.{List, [], _∷_, _++_}
 use Prim.Native.Nat.{ℕ}
-use lib.ListN.{length, take, drop, replicate}
+use lib.ListN.{length, take, replicate}
 use Rattle.refusal.specs.Number.{numberOf}
 use Rattle.refusal.specs.declared.Refusal.the-variants.{MalformedCard}
 use Rattle.key_book.specs.Book.{Book, bookOf}
@@ -45,7 +45,7 @@ pub record Example1 : Type 0 where
   pub read-back : readOf fullRoom cardB ≡ Rows 1
   pub read-book : readBook fullRoom cardB ≡ roomWithB
 
--- a row in which no byte of the id and the counters is another's: the order of the fields and of the bytes in each
+-- document 01, 'The card': the order of the fields and of the bytes in each, by a row in which no two bytes of id and counters are the same
 abbrev pub orderedRow : Row
 orderedRow = record { id = 0x13121110; received = 0x2726252423222120; sent = 0x3736353433323130; key = 0x41 ∷ 0x40 ∷ [] }
 
@@ -54,13 +54,23 @@ orderedCard =
     0x18 ∷ 0x00 ∷ 0x01 ∷ 0x00 ∷ 0x10 ∷ 0x11 ∷ 0x12 ∷ 0x13 ∷ 0x20 ∷ 0x21 ∷ 0x22 ∷ 0x23 ∷ 0x24 ∷ 0x25 ∷ 0x26 ∷ 0x27 ∷ 0x30 ∷ 0x31 ∷ 0x32 ∷ 0x33
     ∷ 0x34 ∷ 0x35 ∷ 0x36 ∷ 0x37 ∷ 0x41 ∷ 0x40 ∷ 0x04 ∷ 0x00 ∷ 0x02 ∷ 0x00 ∷ 0x01 ∷ 0x00 ∷ []
 
--- document 01, 'The card': the fields in their order, each number little-endian; and the rows in front of a card that is cut or goes on
 pub record OrderedBytes : Type 0 where
   pub card : cardOf (orderedRow ∷ []) ≡ orderedCard
   pub rows : readCard orderedCard ≡ some (orderedRow ∷ [])
-  pub whole : rowsInFront orderedCard ≡ record { rows = orderedRow ∷ []; ends = closed; rest = 0x04 ∷ 0x00 ∷ 0x02 ∷ 0x00 ∷ 0x01 ∷ 0x00 ∷ [] }
-  pub cut : rowsInFront (take 31 orderedCard) ≡ record { rows = orderedRow ∷ []; ends = fault; rest = 0x04 ∷ 0x00 ∷ 0x02 ∷ 0x00 ∷ 0x01 ∷ [] }
-  pub twice : rowsInFront (orderedCard ++ orderedCard) ≡ record { rows = orderedRow ∷ []; ends = fault; rest = drop 26 orderedCard ++ orderedCard }
+
+-- the row's record, and the close behind it
+abbrev pub orderedRecord : List ℕ
+orderedRecord = take 26 orderedCard
+
+abbrev pub closeOfOne : List ℕ
+closeOfOne = 0x04 ∷ 0x00 ∷ 0x02 ∷ 0x00 ∷ 0x01 ∷ 0x00 ∷ []
+
+-- the row in front of that card: whole, cut in its close, with one more byte, and with the same row once more
+pub record FrontExample : Type 0 where
+  pub whole : rowsInFront orderedCard ≡ record { rows = orderedRow ∷ []; ends = closed; rest = closeOfOne }
+  pub cut : rowsInFront (take 31 orderedCard) ≡ record { rows = orderedRow ∷ []; ends = fault; rest = take 5 closeOfOne }
+  pub one-byte-more : (x : ℕ) → rowsInFront (orderedCard ++ (x ∷ [])) ≡ record { rows = orderedRow ∷ []; ends = fault; rest = closeOfOne ++ (x ∷ []) }
+  pub id-again : rowsInFront (orderedRecord ++ orderedCard) ≡ record { rows = orderedRow ∷ []; ends = fault; rest = orderedCard }
 
 abbrev pub emptyCard : List ℕ
 emptyCard = 0x04 ∷ 0x00 ∷ 0x02 ∷ 0x00 ∷ 0x00 ∷ 0x00 ∷ []

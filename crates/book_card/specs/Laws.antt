@@ -103,7 +103,8 @@ pub record ReadWritten (card : List ℕ) (into : Book) (room : List ℕ) : Type 
 
 abbrev pub ReadThenWrite : Type 0
 ReadThenWrite =
-    (card : List ℕ) → Bytes card → (into : Book) (n : ℕ) → readOf into card ≡ Rows n → (room : List ℕ) → length card ≤ length room → ReadWritten card into room
+    (card : List ℕ) → Bytes card → (into : Book) (n : ℕ) → readOf into card ≡ Rows n → (room : List ℕ) → length card ≤ length room
+    → ReadWritten card into room
 
 -- what a card depends on: of each row in use the id, the counters and the key; not slot bytes past a key, nor rows from the row count on
 pub record SameRows (b c : Book) : Type 0 where
@@ -114,4 +115,6 @@ pub record SameRows (b c : Book) : Type 0 where
   pub same-key : (k : ℕ) → k < b .rows → SameKey b c k
 
 abbrev pub WriteDepends : Type 0
-WriteDepends = (b c : Book) → Sound b → Sound c → SameRows b c → (room : List ℕ) → (writeOf b (length room) ≡ writeOf c (length room)) × (written b room ≡ written c room)
+WriteDepends =
+    (b c : Book) → Sound b → Sound c → SameRows b c → (room : List ℕ)
+    → (writeOf b (length room) ≡ writeOf c (length room)) × (written b room ≡ written c room)

@@ -229,8 +229,12 @@ fn fill(
     let mut at: usize = 0;
     let mut row: usize = 0;
     while row < rows {
-        let size = number_at(card, at, LENGTH_SIZE) as usize - (KEY_AT - LENGTH_SIZE);
-        ids[row] = number_at(card, at + BODY_AT, ID_SIZE) as u32;
+        let front = front_at(card, at);
+        let Front::Row { id, size } = front else {
+            // Not reached: the card has this row.
+            return;
+        };
+        ids[row] = id;
         lengths[row] = size as u8;
         received[row] = number_at(card, at + RECEIVED_AT, COUNTER_SIZE);
         sent[row] = number_at(card, at + SENT_AT, COUNTER_SIZE);

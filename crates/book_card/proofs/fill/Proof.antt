@@ -1,9 +1,18 @@
--- `book_card::fill` meets its contract: each turn keeps `Filling`, that the rows passed stand in all five lists (proofs/Loads.antt). The measure is how many rows are left.
+-- `book_card::fill` meets its contract: each turn keeps `Filling`, that the rows passed stand in all five lists (proofs/Loads.antt); a row is in front each
+-- time. The measure is how many rows are left.
 use borrow.Author.Needs.{needs}
 use native.Mathlib.Omega.{arith}
-use Prim.Native.Nat.{_-_}
+use mathlib.Core.Path.{_≡_, sym, _∙_}
+use mathlib.Core.Logic.{⊎-elim}
+use mathlib.Core.List.{[], _∷_}
+use denote.Enum.Declared.{tagOf}
+use types.Run.{OneOf}
+use Prim.Native.Nat.{ℕ, _-_}
 use Rattle.key_book.specs.Book.{bookOf}
-use Rattle.book_card.proofs.Loads.{Filling, filling-start, filling-end, turn, filled, counted-rows}
+use Rattle.book_card.specs.declared.Front.{Front}
+use Rattle.book_card.specs.declared.Front.the-variants.{Row as RowFront}
+use Rattle.book_card.proofs.Front.{the-type}
+use Rattle.book_card.proofs.Loads.{Filling, filling-start, filling-end, row-in-front, turn, filled, counted-rows}
 use Rattle.book_card.proofs.fill.Statement.{statement}
 use Rattle.book_card.proofs.fill.Tie as tie
 
@@ -15,86 +24,198 @@ abbrev μ-loop : tie.MeasureT-loop
 μ-loop card rows ids₀ lengths₀ store₀ received₀ sent₀ at₀ row₀ ids lengths store received sent at row =
     rows - row
 
+-- what is read as a row is neither broken nor the close
+other : (x : Front) (id size : ℕ) → x ≡ RowFront id size → OneOf (0 ∷ 2 ∷ []) (tagOf the-type x) → ⊥
+other x id size e k = ⊎-elim (λ a. let z : _≡_ {A = ℕ} 1 0 = a in omega arith) (λ a. let z : _≡_ {A = ℕ} 1 2 = a in omega arith) (rw e at k)
+
 loop-holds : tie.Need-loop-holds Inv-loop μ-loop
-loop-holds c = filling-start _ _ _ (counted-rows _ (λ i. omega (arith, c .before .before .before .before .before .shared-slice-known .given i)) _ (c .before .before .before .before .before .before .pre .0)) (c .before .before .before .before .before .before .pre .1 .0) (c .before .before .before .before .before .before .pre .1 .1)
+loop-holds c = filling-start _ _ _ (counted-rows _ (λ i. omega (arith, c .before .before .before .before .before .shared-slice-known .given i)) _
+    (c .before .before .before .before .before .before .pre .0)) (c .before .before .before .before .before .before .pre .1 .0)
+    (c .before .before .before .before .before .before .pre .1 .1)
 
-number-at-requires : tie.Need-number-at-requires Inv-loop μ-loop
-number-at-requires c κs = omega (arith, turn (c .before .loop .inv) (c .loop-test .taken))
+front-at-requires : tie.Need-front-at-requires Inv-loop μ-loop
+front-at-requires c κs = c .before .loop .inv .at-within
 
-sub-size : tie.Need-sub-size Inv-loop μ-loop
-sub-size c = omega (arith, turn (c .before .before .loop .inv) (c .before .loop-test .taken), c .number-at .ensures .0)
+enum-known-front : tie.Need-enum-known-front Inv-loop μ-loop
+enum-known-front c = search needs
 
-sub-size-2 : tie.Need-sub-size-2 Inv-loop μ-loop
-sub-size-2 c = omega (arith, turn (c .before .before .loop .inv) (c .before .loop-test .taken), c .number-at .ensures .0)
+same-length : tie.Need-same-length Inv-loop μ-loop
+same-length c = c .before .before .before .loop .inv .ids .long
 
-add-number-at : tie.Need-add-number-at Inv-loop μ-loop
-add-number-at c = omega (arith, turn (c .before .before .loop .inv) (c .before .loop-test .taken))
+same-length-2 : tie.Need-same-length-2 Inv-loop μ-loop
+same-length-2 c = c .before .before .before .loop .inv .lengths .long
 
-number-at-requires-2 : tie.Need-number-at-requires-2 Inv-loop μ-loop
-number-at-requires-2 c κs = omega (arith, turn (c .before .before .loop .inv) (c .before .loop-test .taken))
+same-length-3 : tie.Need-same-length-3 Inv-loop μ-loop
+same-length-3 c = c .before .before .before .loop .inv .store .long
 
-cast-ids : tie.Need-cast-ids Inv-loop μ-loop
-cast-ids c = search needs
+same-length-4 : tie.Need-same-length-4 Inv-loop μ-loop
+same-length-4 c = c .before .before .before .loop .inv .received .long
+
+same-length-5 : tie.Need-same-length-5 Inv-loop μ-loop
+same-length-5 c = c .before .before .before .loop .inv .sent .long
+
+returns : tie.Need-returns Inv-loop μ-loop
+returns c = absurd (other _ _ _ (row-in-front (c .before .before .before .loop .inv) (c .before .before .loop-test .taken) _ (c .before .front-at .ensures))
+    (c .match .keys2))
 
 mul-ids : tie.Need-mul-ids Inv-loop μ-loop
-mul-ids c = omega (arith, turn (c .before .before .before .loop .inv) (c .before .before .loop-test .taken))
+mul-ids c = omega (
+  arith,
+  turn (c .before .before .before .before .before .loop .inv) (c .before .before .before .before .loop-test .taken) _ _
+      (sym (c .before .front .given .1) ∙ c .before .before .before .front-at .ensures),
+)
 
 slice-write-ids : tie.Need-slice-write-ids Inv-loop μ-loop
-slice-write-ids c = omega (arith, turn (c .before .before .before .loop .inv) (c .before .before .loop-test .taken))
+slice-write-ids c = omega (
+  arith,
+  turn (c .before .before .before .before .before .loop .inv) (c .before .before .before .before .loop-test .taken) _ _
+      (sym (c .before .front .given .1) ∙ c .before .before .before .front-at .ensures),
+)
 
 cast-lengths : tie.Need-cast-lengths Inv-loop μ-loop
-cast-lengths c = omega (arith, turn (c .before .before .before .loop .inv) (c .before .before .loop-test .taken), c .before .number-at .ensures .0)
+cast-lengths c = omega (
+  arith,
+  turn (c .before .before .before .before .before .loop .inv) (c .before .before .before .before .loop-test .taken) _ _
+      (sym (c .before .front .given .1) ∙ c .before .before .before .front-at .ensures),
+)
 
 slice-write-lengths : tie.Need-slice-write-lengths Inv-loop μ-loop
-slice-write-lengths c = omega (arith, turn (c .before .before .before .loop .inv) (c .before .before .loop-test .taken))
+slice-write-lengths c = omega (
+  arith,
+  turn (c .before .before .before .before .before .loop .inv) (c .before .before .before .before .loop-test .taken) _ _
+      (sym (c .before .front .given .1) ∙ c .before .before .before .front-at .ensures),
+)
 
-add-number-at-2 : tie.Need-add-number-at-2 Inv-loop μ-loop
-add-number-at-2 c = omega (arith, turn (c .before .before .before .loop .inv) (c .before .before .loop-test .taken))
+add-number-at : tie.Need-add-number-at Inv-loop μ-loop
+add-number-at c = omega (
+  arith,
+  turn (c .before .before .before .before .before .loop .inv) (c .before .before .before .before .loop-test .taken) _ _
+      (sym (c .before .front .given .1) ∙ c .before .before .before .front-at .ensures),
+)
 
-number-at-requires-3 : tie.Need-number-at-requires-3 Inv-loop μ-loop
-number-at-requires-3 c κs = omega (arith, turn (c .before .before .before .loop .inv) (c .before .before .loop-test .taken))
+number-at-requires : tie.Need-number-at-requires Inv-loop μ-loop
+number-at-requires c κs = omega (
+  arith,
+  turn (c .before .before .before .before .before .loop .inv)
+      (c .before .before .before .before .loop-test .taken) _ _ (sym (c .before .front .given .1) ∙ c .before .before .before .front-at .ensures),
+)
 
 mul-received : tie.Need-mul-received Inv-loop μ-loop
-mul-received c = omega (arith, turn (c .before .before .before .before .loop .inv) (c .before .before .before .loop-test .taken))
+mul-received c = omega (
+  arith,
+  turn (c .before .before .before .before .before .before .loop .inv)
+      (c .before .before .before .before .before .loop-test .taken) _ _ (sym (c .before .before .front .given .1)
+      ∙ c .before .before .before .before .front-at .ensures),
+)
 
 slice-write-received : tie.Need-slice-write-received Inv-loop μ-loop
-slice-write-received c = omega (arith, turn (c .before .before .before .before .loop .inv) (c .before .before .before .loop-test .taken))
+slice-write-received c = omega (
+  arith,
+  turn (c .before .before .before .before .before .before .loop .inv)
+      (c .before .before .before .before .before .loop-test .taken) _ _ (sym (c .before .before .front .given .1)
+      ∙ c .before .before .before .before .front-at .ensures),
+)
 
-add-number-at-3 : tie.Need-add-number-at-3 Inv-loop μ-loop
-add-number-at-3 c = omega (arith, turn (c .before .before .before .before .loop .inv) (c .before .before .before .loop-test .taken))
+add-number-at-2 : tie.Need-add-number-at-2 Inv-loop μ-loop
+add-number-at-2 c = omega (
+  arith,
+  turn (c .before .before .before .before .before .before .loop .inv)
+      (c .before .before .before .before .before .loop-test .taken) _ _ (sym (c .before .before .front .given .1)
+      ∙ c .before .before .before .before .front-at .ensures),
+)
 
-number-at-requires-4 : tie.Need-number-at-requires-4 Inv-loop μ-loop
-number-at-requires-4 c κs = omega (arith, turn (c .before .before .before .before .loop .inv) (c .before .before .before .loop-test .taken))
+number-at-requires-2 : tie.Need-number-at-requires-2 Inv-loop μ-loop
+number-at-requires-2 c κs = omega (
+  arith,
+  turn (c .before .before .before .before .before .before .loop .inv)
+      (c .before .before .before .before .before .loop-test .taken) _ _ (sym (c .before .before .front .given .1)
+      ∙ c .before .before .before .before .front-at .ensures),
+)
 
 mul-sent : tie.Need-mul-sent Inv-loop μ-loop
-mul-sent c = omega (arith, turn (c .before .before .before .before .before .loop .inv) (c .before .before .before .before .loop-test .taken))
+mul-sent c = omega (
+  arith,
+  turn (c .before .before .before .before .before .before .before .loop .inv)
+      (c .before .before .before .before .before .before .loop-test .taken) _ _ (sym (c .before .before .before .front .given .1)
+      ∙ c .before .before .before .before .before .front-at .ensures),
+)
 
 slice-write-sent : tie.Need-slice-write-sent Inv-loop μ-loop
-slice-write-sent c = omega (arith, turn (c .before .before .before .before .before .loop .inv) (c .before .before .before .before .loop-test .taken))
+slice-write-sent c = omega (
+  arith,
+  turn (c .before .before .before .before .before .before .before .loop .inv)
+      (c .before .before .before .before .before .before .loop-test .taken) _ _ (sym (c .before .before .before .front .given .1)
+      ∙ c .before .before .before .before .before .front-at .ensures),
+)
 
 mul-slot : tie.Need-mul-slot Inv-loop μ-loop
-mul-slot c = omega (arith, turn (c .before .before .before .before .before .loop .inv) (c .before .before .before .before .loop-test .taken))
+mul-slot c = omega (
+  arith,
+  turn (c .before .before .before .before .before .before .before .loop .inv)
+      (c .before .before .before .before .before .before .loop-test .taken) _ _ (sym (c .before .before .before .front .given .1)
+      ∙ c .before .before .before .before .before .front-at .ensures),
+)
 
 add-copy : tie.Need-add-copy Inv-loop μ-loop
-add-copy c = omega (arith, turn (c .before .before .before .before .before .loop .inv) (c .before .before .before .before .loop-test .taken))
+add-copy c = omega (
+  arith,
+  turn (c .before .before .before .before .before .before .before .loop .inv)
+      (c .before .before .before .before .before .before .loop-test .taken) _ _ (sym (c .before .before .before .front .given .1)
+      ∙ c .before .before .before .before .before .front-at .ensures),
+)
 
 copy-requires : tie.Need-copy-requires Inv-loop μ-loop
-copy-requires c κs = omega (arith, turn (c .before .before .before .before .before .before .loop .inv) (c .before .before .before .before .before .loop-test .taken), c .before .before .before .before .number-at .ensures .0)
+copy-requires c κs = omega (
+  arith,
+  turn (c .before .before .before .before .before .before .before .before .loop .inv)
+      (c .before .before .before .before .before .before .before .loop-test .taken) _ _ (sym (c .before .before .before .before .front .given .1)
+      ∙ c .before .before .before .before .before .before .front-at .ensures),
+)
 
 add-clear : tie.Need-add-clear Inv-loop μ-loop
-add-clear c = omega (arith, turn (c .before .before .before .before .before .before .before .before .before .before .loop .inv) (c .before .before .before .before .before .before .before .before .before .loop-test .taken), c .before .before .before .before .before .before .before .before .number-at .ensures .0)
+add-clear c = omega (
+  arith,
+  turn (c .before .before .before .before .before .before .before .before .before .before .before .before .loop .inv)
+      (c .before .before .before .before .before .before .before .before .before .before .before .loop-test .taken) _ _
+      (sym (c .before .before .before .before .before .before .before .before .front .given .1)
+      ∙ c .before .before .before .before .before .before .before .before .before .before .front-at .ensures),
+)
 
 sub-clear : tie.Need-sub-clear Inv-loop μ-loop
-sub-clear c = omega (arith, turn (c .before .before .before .before .before .before .before .before .before .before .loop .inv) (c .before .before .before .before .before .before .before .before .before .loop-test .taken), c .before .before .before .before .before .before .before .before .number-at .ensures .0)
+sub-clear c = omega (
+  arith,
+  turn (c .before .before .before .before .before .before .before .before .before .before .before .before .loop .inv)
+      (c .before .before .before .before .before .before .before .before .before .before .before .loop-test .taken) _ _
+      (sym (c .before .before .before .before .before .before .before .before .front .given .1)
+      ∙ c .before .before .before .before .before .before .before .before .before .before .front-at .ensures),
+)
 
 clear-requires : tie.Need-clear-requires Inv-loop μ-loop
-clear-requires c κs = omega (arith, turn (c .before .before .before .before .before .before .before .before .before .before .loop .inv) (c .before .before .before .before .before .before .before .before .before .loop-test .taken), c .before .before .before .before .before .before .before .before .number-at .ensures .0)
+clear-requires c κs = omega (
+  arith,
+  turn (c .before .before .before .before .before .before .before .before .before .before .before .before .loop .inv)
+      (c .before .before .before .before .before .before .before .before .before .before .before .loop-test .taken) _ _
+      (sym (c .before .before .before .before .before .before .before .before .front .given .1)
+      ∙ c .before .before .before .before .before .before .before .before .before .before .front-at .ensures),
+)
 
 add-at : tie.Need-add-at Inv-loop μ-loop
-add-at c = omega (arith, turn (c .before .before .before .before .before .before .before .before .before .before .before .before .before .loop .inv) (c .before .before .before .before .before .before .before .before .before .before .before .before .loop-test .taken), c .before .before .before .before .before .before .before .before .before .before .before .number-at .ensures .0)
+add-at c = omega (
+  arith,
+  turn (c .before .before .before .before .before .before .before .before .before .before .before .before .before .before
+      .before .loop .inv) (c .before .before .before .before .before .before .before .before .before .before .before .before .before
+      .before .loop-test .taken) _ _ (sym (c .before .before .before .before .before .before .before .before .before .before .before .front .given .1)
+      ∙ c .before .before .before .before .before .before .before .before .before .before .before .before .before .front-at .ensures),
+)
 
 add-at-2 : tie.Need-add-at-2 Inv-loop μ-loop
-add-at-2 c = omega (arith, turn (c .before .before .before .before .before .before .before .before .before .before .before .before .before .loop .inv) (c .before .before .before .before .before .before .before .before .before .before .before .before .loop-test .taken), c .before .before .before .before .before .before .before .before .before .before .before .number-at .ensures .0)
+add-at-2 c = omega (
+  arith,
+  turn (c .before .before .before .before .before .before .before .before .before .before .before .before .before .before
+      .before .loop .inv) (c .before .before .before .before .before .before .before .before .before .before .before .before .before
+      .before .loop-test .taken) _ _ (sym (c .before .before .before .before .before .before .before .before .before .before .before .front .given .1)
+      ∙ c .before .before .before .before .before .before .before .before .before .before .before .before .before .front-at .ensures),
+)
 
 add-row : tie.Need-add-row Inv-loop μ-loop
 add-row c = omega arith
@@ -103,25 +224,31 @@ loop-less : tie.Need-loop-less Inv-loop μ-loop
 loop-less c = omega arith
 
 loop-again : tie.Need-loop-again Inv-loop μ-loop
-loop-again c = filled (c .before .before .before .before .before .before .before .before .before .before .before .before .before .loop .inv) (c .before .before .before .before .before .before .before .before .before .before .before .before .loop-test .taken) _ _ _ _ _ _ (c .before .before .before .before .before .before .before .before .before .before .before .number-at .ensures .0) (c .before .before .before .before .before .before .before .before .before .before .number-at2 .ensures .0) (c .before .before .before .before .before .before .before .before .before .number-at3 .ensures .0) (c .before .before .before .before .before .before .before .before .number-at4 .ensures .0) (c .before .before .before .before .before .before .copy .ensures) (c .before .before .clear .ensures)
+loop-again c = filled (c .before .before .before .before .before .before .before .before .before .before .before .before .before .before .before .loop .inv)
+    (c .before .before .before .before .before .before .before .before .before .before .before .before .before .before .loop-test .taken) _ _
+    (sym (c .before .before .before .before .before .before .before .before .before .before .before .front .given .1)
+    ∙ c .before .before .before .before .before .before .before .before .before .before .before .before .before .front-at .ensures) _ _ _ _
+    (c .before .before .before .before .before .before .before .before .before .number-at .ensures .0)
+    (c .before .before .before .before .before .before .before .before .number-at2 .ensures .0)
+    (c .before .before .before .before .before .before .copy .ensures) (c .before .before .clear .ensures)
 
-same-length : tie.Need-same-length Inv-loop μ-loop
-same-length c = c .before .loop .inv .ids .long
+same-length-6 : tie.Need-same-length-6 Inv-loop μ-loop
+same-length-6 c = c .before .loop .inv .ids .long
 
-same-length-2 : tie.Need-same-length-2 Inv-loop μ-loop
-same-length-2 c = c .before .loop .inv .lengths .long
+same-length-7 : tie.Need-same-length-7 Inv-loop μ-loop
+same-length-7 c = c .before .loop .inv .lengths .long
 
-same-length-3 : tie.Need-same-length-3 Inv-loop μ-loop
-same-length-3 c = c .before .loop .inv .store .long
+same-length-8 : tie.Need-same-length-8 Inv-loop μ-loop
+same-length-8 c = c .before .loop .inv .store .long
 
-same-length-4 : tie.Need-same-length-4 Inv-loop μ-loop
-same-length-4 c = c .before .loop .inv .received .long
+same-length-9 : tie.Need-same-length-9 Inv-loop μ-loop
+same-length-9 c = c .before .loop .inv .received .long
 
-same-length-5 : tie.Need-same-length-5 Inv-loop μ-loop
-same-length-5 c = c .before .loop .inv .sent .long
+same-length-10 : tie.Need-same-length-10 Inv-loop μ-loop
+same-length-10 c = c .before .loop .inv .sent .long
 
-returns : tie.Need-returns Inv-loop μ-loop
-returns c = filling-end (c .before .loop .inv) (c .loop-test .left)
+returns-2 : tie.Need-returns-2 Inv-loop μ-loop
+returns-2 c = filling-end (c .before .loop .inv) (c .loop-test .left)
 
 pub fill-spec : {M : Type 1} → statement M
 fill-spec =
@@ -130,22 +257,24 @@ fill-spec =
     Inv-loop
     μ-loop
     loop-holds
-    number-at-requires
-    sub-size
-    sub-size-2
-    add-number-at
-    number-at-requires-2
-    cast-ids
+    front-at-requires
+    enum-known-front
+    same-length
+    same-length-2
+    same-length-3
+    same-length-4
+    same-length-5
+    returns
     mul-ids
     slice-write-ids
     cast-lengths
     slice-write-lengths
-    add-number-at-2
-    number-at-requires-3
+    add-number-at
+    number-at-requires
     mul-received
     slice-write-received
-    add-number-at-3
-    number-at-requires-4
+    add-number-at-2
+    number-at-requires-2
     mul-sent
     slice-write-sent
     mul-slot
@@ -159,9 +288,9 @@ fill-spec =
     add-row
     loop-less
     loop-again
-    same-length
-    same-length-2
-    same-length-3
-    same-length-4
-    same-length-5
-    returns)
+    same-length-6
+    same-length-7
+    same-length-8
+    same-length-9
+    same-length-10
+    returns-2)
