@@ -32,7 +32,7 @@ import re
 import sys
 from dataclasses import dataclass, field
 
-from rattle_text import AnttSource, RattleSource, antt_tokens, bare, canonical, groups, outside, split_words
+from rattle_text import AnttSource, RattleSource, antt_tokens, arguments, bare, canonical, groups, outside, split_words
 
 # crate, proof file, theorem, its statement: the one place where the statement is proved.
 THEOREMS = [
@@ -120,8 +120,11 @@ CONSTRUCTORS = set("true false none some [] _∷_ zero suc".split())
 # What every clause and definition has without an import.
 LENT = set("now _×_ × ⌜_⌝ Unit ⊥ Type → .entry .exit .ptr".split())
 
+# The operators of LIBRARY that bind tighter than an equation.
+TIGHT = set("+ - * / % ^ ++ ∷ &&".split())
 RELATIONS = ("≡", "≤", "↔")
-CONNECTIVES = ("→", "×", "⊎", "↔", "≢", "<", "≤", "¬", ",", "λ", "let", "in", "=", ":", ";")
+# What stands at the left margin of a file of specs/.
+SORTS = ("use", "mod", "signature", "clause", "record", "data")
 
 
 @dataclass
@@ -152,11 +155,7 @@ class Crate:
     def definitions(self, module):
         """What a file of specs/ defines at its left margin, by name."""
         source = self.specs.get(f"specs/{module}.antt")
-        return defined(source) if source else {}
-
-
-def defined(source):
-    return {each.name: each for each in source.declarations if each.sort in ("signature", "record", "data")}
+        return source.definitions if source else {}
 
 
 def crates_of(root):
@@ -178,8 +177,6 @@ def trivial_parts(words):
                 sides = split_words(part, (relation,))
                 if len(sides) == 2 and sides[0] and same(*sides):
                     yield " ".join(part)
-    if bare(split_words(bare(words), ("→",))[-1])[:1] in (["Unit"], ["⊤"]):
-        yield " ".join(words)
 
 
 def same(one, other):
@@ -214,12 +211,14 @@ class Reading:
     equations: list
 
     @classmethod
-    def of(cls, clause):
+    def of(cls, clause, known):
+        """`known` are the names that an equation may hold; another may be an operator that takes the equation apart."""
         words = antt_tokens(clause.text)
         if len(words) < 6 or words[0] != "λ" or words[2] != "." or words[3] != "⌜" or words[-1] != "⌝" or "⌜" in words[4:] or "⌝" in words[:-1]:
             return None
         said = words[4:-1]
-        sides = [split_words(part, ("≡",)) for part in parts_of(said) if not outside(part, CONNECTIVES)]
+        plain = known | TIGHT | {words[1], "now", "(", ")", "≡"}
+        sides = [split_words(part, ("≡",)) for part in parts_of(said) if all(word in plain or re.match(r"\.|\d", word) for word in part)]
         return cls(words[1], said, [pair for pair in sides if len(pair) == 2])
 
 
@@ -232,19 +231,19 @@ def contract_faults(crates):
                 if function.foreign:
                     yield f"{place} has no body: its contract would be assumed"
                 for clause in function.clauses:
-                    for fault in clause_faults(clause):
+                    for fault in clause_faults(clause, {*imported}):
                         yield f"{place}, line {clause.line}: {fault}"
                 if function.public and not path.endswith("main.rt"):
                     for fault in public_faults(function, imported, crates):
                         yield f"{place} {fault}"
 
 
-def clause_faults(clause):
+def clause_faults(clause, known):
     if clause.commented:
         yield "a clause holds a comment"
     if clause.kind != "ensures":
         return
-    reading = Reading.of(clause)
+    reading = Reading.of(clause, known)
     if not reading:
         yield "the clause is not of the form `λ r. ⌜ .. ⌝`"
         return
@@ -252,24 +251,29 @@ def clause_faults(clause):
         yield "the clause speaks neither of the result nor of what is lent afterwards"
     for part in trivial_parts(reading.words):
         yield f"`{part}` is trivially true"
+    if any(is_unit(part) for part in parts_of(reading.words)):
+        yield "the clause says nothing"
+    if "_" in reading.words:
+        yield "`_` stands for whatever makes the clause true"
     for word in reading.words:
         if "." in word[1:] and word.split(".")[0].split("·")[0] in ("Rattle", "package", "mathlib", "lib", "Prim", "native"):
             yield f"`{word}` is named by its path and not imported"
 
 
 def imports(crate, crates, source):
-    """The names that a source's `ghost use` lines bring, and for each whether it is a definition of specs/."""
+    """The names that a source's `ghost use` lines bring, each with the file of specs/ that defines it, if one does."""
     found = {}
     for use in source.ghost_uses():
         owner, module = specs_module(use.path, crate)
         definitions = crates[owner].definitions(module) if owner in crates else {}
         for name, alias in use.items:
-            found[alias] = (crates[owner], definitions[name]) if name in definitions else None
+            found[alias] = crates[owner].specs[f"specs/{module}.antt"] if name in definitions else None
     return found
 
 
 def public_faults(function, imported, crates):
-    cited = {name for name, definition in imported.items() if definition}
+    cited = {name for name, source in imported.items() if source}
+    names = [parameter.name for parameter in function.parameters]
     if function.all("requires"):
         yield "has a `requires`"
     if not function.all("ensures"):
@@ -277,23 +281,24 @@ def public_faults(function, imported, crates):
     for clause in function.clauses:
         if clause.kind not in ("requires", "ensures"):
             yield f"has a clause `{clause.kind}`"
-    readings = [reading for reading in map(Reading.of, function.all("ensures")) if reading]
+    readings = [reading for clause in function.all("ensures") if (reading := Reading.of(clause, {*imported, *names}))]
     for reading in readings:
         if not cited & set(reading.words):
             yield f"has an `ensures` that names no definition of specs/: `{' '.join(reading.words)}`"
-    names = [parameter.name for parameter in function.parameters]
-    for name in {*names, *(reading.result for reading in readings)} & {*imported, *LENT}:
-        yield f"hides the imported name `{name}`"
-    equations = [(reading.result, left, right) for reading in readings for left, right in reading.equations if settles(reading, right, cited)]
+    results = {reading.result for reading in readings}
+    for name in ({*names} | results) & {*imported, *LENT} | results & {*names}:
+        yield f"hides the name `{name}`"
+    equations = [(reading.result, left, right) for reading in readings for left, right in reading.equations if settles(reading, right, cited, names)]
     yield from unsettled(function, equations, imported)
     for name in names:
         if not any(name in left + right for _, left, right in equations):
             yield f"says nothing of its parameter `{name}`"
 
 
-def settles(reading, right, cited):
+def settles(reading, right, cited, names):
     """The right side of an equation is a definition's value on what the function was given."""
-    return bool(cited & set(right)) and reading.result not in right and ".exit" not in right
+    said = set(right)
+    return bool(cited & said) and bool(not names or said & {*names}) and not said & {reading.result, ".exit"}
 
 
 def unsettled(function, equations, imported):
@@ -313,24 +318,18 @@ def unsettled(function, equations, imported):
 
 def holds(words, wanted, imported):
     """A function that builds a record of its arguments is applied to what is wanted, as one of them."""
-    definition = imported.get(words[0])
-    if not definition or not builds_record(*definition):
-        return False
-    return " ".join(["(", *wanted, ")"]) in " ".join(words)
+    source = imported.get(words[0])
+    return bool(source) and builds_record(source, words[0]) and wanted in arguments(words)
 
 
-def builds_record(crate, definition):
+def builds_record(source, name):
     """Its one clause is `f x y .. = record { a = x; b = y; .. }` with each argument the whole of one field: equal values have equal arguments."""
-    for source in crate.specs.values():
-        clauses = [each.words for each in source.declarations if each.sort == "clause" and each.name == definition.name]
-        if clauses:
-            break
-    if len(clauses) != 1 or "=" not in clauses[0]:
+    clauses = [each.words for each in source.declarations if each.sort == "clause" and each.name == name]
+    if len(clauses) != 1:
         return False
-    at = clauses[0].index("=")
-    arguments, body = clauses[0][1:at], clauses[0][at + 1 :]
-    values = [part[-1] for part in split_words(body[2:-1], (";",)) if len(part) == 3 and part[1] == "="]
-    return body[:2] == ["record", "{"] and sorted(values) == sorted(arguments)
+    left, body = split_words(clauses[0], ("=",))
+    values = [part[2] for part in split_words(body[2:-1], (";",)) if len(part) == 3 and part[1] == "="]
+    return body[:2] == ["record", "{"] and sorted(values) == sorted(left[1:])
 
 
 # ---- names
@@ -356,6 +355,8 @@ def name_faults(crates):
             for name, line in {*source.named_places, *left_sides(source)}:
                 if name in LIBRARY and name not in CONSTRUCTORS or name in LENT:
                     yield f"{crate.place(path, line)}: `{name}` is given another meaning"
+                elif "_" in name[:-1] or name.endswith("_") and name != "_":
+                    yield f"{crate.place(path, line)}: `{name}` is an operator of its own"
 
 
 def left_sides(source):
@@ -381,8 +382,8 @@ def use_faults(use, crate, crates):
                 yield f"`{name}` is not defined in specs/{module}.antt of {owner}"
             elif not owner and not re.match(r"Rattle·\w+(·specs\.specs|\.specs)\.declared\.\w+", use.path):
                 yield f"`{use.path}` is no file of specs/"
-        elif use.path.split(".")[0] not in ("mathlib", "lib", "Prim"):
-            yield f"`{use.path}` is neither a library's nor a crate's"
+        elif name not in LIBRARY:
+            yield f"`{name}` of `{use.path}` is not in the table LIBRARY"
 
 
 def gives(crate, module, name):
@@ -426,21 +427,34 @@ def folder_of(path, function):
 def said_faults(crates):
     for crate in crates.values():
         for path, source in crate.specs.items():
-            declarations = source.declarations
-            for each in declarations:
-                for line, words in said_in(each, declarations):
+            for each in source.declarations:
+                place = f"{crate.place(path, each.line)}: `{each.name}`"
+                if each.sort not in SORTS:
+                    yield f"{place}: specs/ has no `{each.sort}`"
+                said = said_by(each, source)
+                for words in said:
                     for part in trivial_parts(words):
-                        yield f"{crate.place(path, line)}: in `{each.name}`: `{part}` is trivially true"
+                        yield f"{place}: `{part}` is trivially true"
+                    if "_" in words and "λ" not in words:
+                        yield f"{place}: `_` stands for whatever makes `{' '.join(words)}` true"
+                every = any if each.sort == "record" else all
+                if said and every(is_unit(part) for words in said for part in parts_of(words)):
+                    yield f"{place} says nothing in a part"
 
 
-def said_in(each, declarations):
-    """What a record says field by field, or a closed statement in its clause."""
+def said_by(each, source):
+    """What a record says field by field, or another statement or predicate clause by clause."""
     if each.sort == "record":
-        yield from ((line, kind) for line, _, kind in each.fields())
-    if each.sort == "signature" and is_closed(each):
-        for clause in declarations:
-            if clause.sort == "clause" and clause.name == each.name:
-                yield clause.line, clause.words[2:]
+        return [kind for _, _, kind in each.fields()] or [["Unit"]]
+    if each.sort != "signature" or split_words(each.type, ("→",))[-1][:1] != ["Type"]:
+        return []
+    clauses = [clause.words for clause in source.declarations if clause.sort == "clause" and clause.name == each.name]
+    return [words[(outside(words, ("=",)) or [0])[0] + 1 :] for words in clauses]
+
+
+def is_unit(words):
+    """Whatever is given, there is nothing to show."""
+    return bare(split_words(bare(words), ("→",))[-1])[:1] in (["Unit"], ["⊤"])
 
 
 def is_closed(each):
@@ -481,7 +495,7 @@ def statement_faults(crates, crate, statement, lists):
     stating = {name for name, _, _, stated in lists.theorems if stated == statement}
     for other in crates.values():
         for path, source in {**other.specs, **other.proofs}.items():
-            each = defined(source).get(statement)
+            each = source.definitions.get(statement)
             if each and not (other.name in stating and path.startswith("specs/")):
                 yield f"another `{statement}` is defined at {other.place(path, each.line)}"
             elif each and other is crate and not is_closed(each):
@@ -493,12 +507,12 @@ def listed_faults(crates, lists):
     proved = {(crate, file, theorem) for crate, file, theorem, _ in lists.theorems}
     for crate in crates.values():
         for path, source in crate.specs.items():
-            for each in defined(source).values():
+            for each in source.definitions.values():
                 if each.sort != "data" and is_closed(each) and (crate.name, each.name) not in {*stated, *lists.data}:
                     yield f"{crate.place(path, each.line)}: no listed theorem proves `{each.name}`"
         for file in VECTOR_FILES:
             source = crate.proofs.get(f"proofs/{file}.antt")
-            for each in defined(source).values() if source else ():
+            for each in source.definitions.values() if source else ():
                 if "abbrev" not in each.marks() and (crate.name, file, each.name) not in {*proved, *lists.unstated}:
                     yield f"{crate.place(f'proofs/{file}.antt', each.line)}: `{each.name}` is computed and not listed"
 

@@ -255,7 +255,7 @@ class Declaration:
             count += 1
         return count
 
-    @property
+    @cached_property
     def sort(self):
         """`record`, `data`, `signature`, `clause`, or the word that opens it (`use`, `mod`, `module`, ..)."""
         rest = self.words[self.marked() :]
@@ -269,12 +269,12 @@ class Declaration:
         equals, colon = outside(rest, ("=",)), outside(rest, (":",))
         return bool(equals) and equals[0] < colon[0]
 
-    @property
+    @cached_property
     def name(self):
         rest = self.words[self.marked() :]
         return rest[1] if rest and rest[0] in ("record", "data") and len(rest) > 1 else (rest[0] if rest else "")
 
-    @property
+    @cached_property
     def type(self):
         """The words of a signature's type, or of a record's or data type's kind, without its fields."""
         rest = self.words[self.marked() :]
@@ -328,6 +328,11 @@ class AnttSource:
             elif line and found:
                 found[-1][1] += "\n" * (number - found[-1][0] - found[-1][1].count("\n")) + line
         return [Declaration(number, text) for number, text in found]
+
+    @cached_property
+    def definitions(self):
+        """What stands at the left margin with a meaning, by name."""
+        return {each.name: each for each in self.declarations if each.sort in ("signature", "record", "data")}
 
     def uses(self):
         for declaration in self.declarations:
@@ -431,6 +436,16 @@ def canonical(words):
             kept.append(words[at])
             at += 1
     return kept
+
+
+def arguments(words):
+    """What a function is applied to: each a word or what stands in a bracket."""
+    found, at = [], 1
+    while at < len(words):
+        end = group_end(words, at)
+        found.append(bare(words[at:end]))
+        at = end
+    return found
 
 
 def groups(words):
