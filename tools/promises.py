@@ -8,22 +8,24 @@ Prints a line for each fault and fails if there is one. Comments never count: th
 Contracts (src/**/*.rt)
  - No function is foreign: the contract of a function without a body is assumed.
  - Every clause is `⌜ P ⌝`, behind `λ r.` in an `ensures`, and holds no comment. An `ensures` speaks of the result or of what is lent afterwards,
-   and no part of it is trivially true (`x ≡ x`, `A → A`, `Unit`, ..). These two hold of private functions and of programs too.
+   and no part of it is trivially true (`x ≡ x`, `A → A`, `Unit`, ..). This holds of private functions and of programs too.
  - A public function of a library (`pub`, or visible to C; also in an `impl`, also in a deeper file) has no `requires`. Equations fix its result
-   (`r ≡ ..`; of a reference what it refers to and where, `now r ≡ ..` and `r .ptr ≡ ..`) and what is behind each `&mut` afterwards
-   (`now (p .exit) ≡ ..`, perhaps inside a record that is built of such parts). Such an equation stands under no premise; its other side names a definition
-   of specs/ and neither the result nor anything `.exit`. Every clause names a definition of specs/; every parameter stands in an equation; no
-   parameter hides an imported name.
+   (`r ≡ ..`, or each field of it; of a reference what it refers to and where, `now r ≡ ..` and `r .ptr ≡ ..`) and what is behind each `&mut` afterwards
+   (`now (p .exit) ≡ ..`, perhaps as an argument of what builds a record of its arguments). Such an equation stands under no premise. Its right side
+   names a definition of specs/ and, unless all is lent for writing, a parameter; it names neither the result nor anything `.exit`. Every word of it
+   is known. Every clause names a definition of specs/; every parameter stands in an equation; no parameter hides a name.
 Names (src/ and specs/)
  - The names of LIBRARY come from their library path alone, the names of LENT from nowhere; neither is given another meaning in specs/.
+   Contracts take nothing else from a library, definitions no other operator; specs/ has no operator of its own.
  - An import lists its names and takes each from the file of specs/ that defines it.
 Definitions and proofs (specs/ and proofs/)
  - No axiom and no hole. Each file is declared by the Lib.antt beside it; each folder of proofs/ belongs to a function.
- - No part of a record or of a closed statement in specs/ is trivially true.
+ - A file of specs/ has no sections. No part of a record, a predicate or a closed statement there is trivially true or left to be found (`_`).
 Statements
  - A theorem of THEOREMS stands once in its file, at the left margin, with its statement alone for a type and its proof right behind. The file imports
    the statement from the file of specs/ that defines it, closed (`Type 0`, no parameters), and nothing else has its name.
- - Every closed type of specs/ is the statement of a listed theorem or stands in DATA; what the files of VECTOR_FILES prove is listed.
+ - Every closed type of specs/ is the statement of a listed theorem or stands in DATA. What the files of VECTOR_FILES prove is listed, but for what
+   serves another proof there or stands in UNSTATED. The tables name only what is there.
 Must-fail edits
  - A line that names the slip, a file of src/ or specs/, and pairs of lines: the old one occurs once, the new one differs.
 """
@@ -32,6 +34,7 @@ import re
 import sys
 from dataclasses import dataclass, field
 
+sys.dont_write_bytecode = True
 from rattle_text import AnttSource, RattleSource, antt_tokens, arguments, bare, canonical, groups, outside, split_words
 
 # crate, proof file, theorem, its statement: the one place where the statement is proved.
@@ -234,7 +237,7 @@ def contract_faults(crates):
                     for fault in clause_faults(clause, {*imported}):
                         yield f"{place}, line {clause.line}: {fault}"
                 if function.public and not path.endswith("main.rt"):
-                    for fault in public_faults(function, imported, crates):
+                    for fault in public_faults(function, imported, source.structs):
                         yield f"{place} {fault}"
 
 
@@ -242,6 +245,8 @@ def clause_faults(clause, known):
     if clause.commented:
         yield "a clause holds a comment"
     if clause.kind != "ensures":
+        if clause.kind == "requires" and not re.fullmatch(r"\s*⌜[^⌜⌝]*⌝\s*", clause.text):
+            yield "the clause is not of the form `⌜ .. ⌝`"
         return
     reading = Reading.of(clause, known)
     if not reading:
@@ -271,9 +276,10 @@ def imports(crate, crates, source):
     return found
 
 
-def public_faults(function, imported, crates):
+def public_faults(function, imported, structs):
     cited = {name for name, source in imported.items() if source}
     names = [parameter.name for parameter in function.parameters]
+    given = {parameter.name for parameter in function.parameters if not parameter.lent_mutably}
     if function.all("requires"):
         yield "has a `requires`"
     if not function.all("ensures"):
@@ -288,32 +294,48 @@ def public_faults(function, imported, crates):
     results = {reading.result for reading in readings}
     for name in ({*names} | results) & {*imported, *LENT} | results & {*names}:
         yield f"hides the name `{name}`"
-    equations = [(reading.result, left, right) for reading in readings for left, right in reading.equations if settles(reading, right, cited, names)]
-    yield from unsettled(function, equations, imported)
+    equations = [
+        (reading.result, left, right)
+        for reading in readings
+        for left, right in reading.equations
+        if settles(reading, right, cited) and (not given or {*names} & {*right})
+    ]
+    yield from unsettled(function, equations, imported, structs)
     for name in names:
         if not any(name in left + right for _, left, right in equations):
             yield f"says nothing of its parameter `{name}`"
 
 
-def settles(reading, right, cited, names):
-    """The right side of an equation is a definition's value on what the function was given."""
-    said = set(right)
-    return bool(cited & said) and bool(not names or said & {*names}) and not said & {reading.result, ".exit"}
+def settles(reading, right, cited):
+    """The right side of an equation is a definition's value, on nothing that the function gives back."""
+    return bool(cited & {*right}) and not {*right} & {reading.result, ".exit"}
 
 
-def unsettled(function, equations, imported):
+def unsettled(function, equations, imported, structs):
     """What no equation fixes: the result, or what is behind a `&mut` afterwards."""
     observed = [(result, canonical(left)) for result, left, _ in equations]
-    if function.result not in ("", "()"):
-        reference = function.result.startswith("&")
-        wanted = (lambda r: ["now", r], lambda r: [r, ".ptr"]) if reference else (lambda r: [r],)
-        if not all(any(left == shape(result) for result, left in observed) for shape in wanted):
-            yield "has no equation that fixes its result"
+    if function.result not in ("", "()") and not result_fixed(function.result, observed, structs):
+        yield "has no equation that fixes its result"
     for parameter in function.parameters:
         if parameter.lent_mutably:
             after = ["now", "(", parameter.name, ".exit", ")"]
             if not any(left == after or holds(left, after, imported) for _, left in observed):
                 yield f"has no equation that fixes `{parameter.name}` afterwards"
+
+
+def result_fixed(kind, observed, structs):
+    """A reference by what it refers to and where; a struct perhaps by its fields, one by one or listed (`r .a ∷ r .b ∷ [] ≡ ..`)."""
+    seen = [part[1:] if part[:1] == [result] else part for result, left in observed for part in listed(left)]
+    if kind.startswith("&"):
+        return [".ptr"] in seen and any(left == ["now", result] for result, left in observed)
+    fields = structs.get(kind, [])
+    return [] in seen or bool(fields) and all([f".{name}"] in seen for name in fields)
+
+
+def listed(words):
+    """The things that a list names, or the one thing itself."""
+    parts = split_words(words, ("∷",))
+    return parts[:-1] if parts[-1] == ["[]"] else [words]
 
 
 def holds(words, wanted, imported):
@@ -349,7 +371,7 @@ def name_faults(crates):
         for path, source in {**crate.src, **crate.specs}.items():
             uses = source.ghost_uses() if path.endswith(".rt") else source.uses()
             for use in uses:
-                for fault in use_faults(use, crate, crates):
+                for fault in use_faults(use, crate, crates, path.endswith(".rt")):
                     yield f"{crate.place(path, use.line)}: {fault}"
         for path, source in crate.specs.items():
             for name, line in {*source.named_places, *left_sides(source)}:
@@ -367,7 +389,7 @@ def left_sides(source):
             yield from ((name, each.line) for name in each.words[:at])
 
 
-def use_faults(use, crate, crates):
+def use_faults(use, crate, crates, for_contracts):
     if not use.path:
         yield f"`use {use.text}` does not list the names that it takes"
         return
@@ -382,7 +404,9 @@ def use_faults(use, crate, crates):
                 yield f"`{name}` is not defined in specs/{module}.antt of {owner}"
             elif not owner and not re.match(r"Rattle·\w+(·specs\.specs|\.specs)\.declared\.\w+", use.path):
                 yield f"`{use.path}` is no file of specs/"
-        elif name not in LIBRARY:
+        elif use.path.split(".")[0] not in ("mathlib", "lib", "Prim"):
+            yield f"`{use.path}` is neither a library's nor a crate's"
+        elif name not in LIBRARY and (for_contracts or "_" in name):
             yield f"`{name}` of `{use.path}` is not in the table LIBRARY"
 
 
@@ -397,6 +421,9 @@ def gives(crate, module, name):
 def text_faults(crates):
     for crate in crates.values():
         for path, source in {**crate.specs, **crate.proofs}.items():
+            for number, line in enumerate(source.raw.split("\n"), 1):
+                if re.search(r"(?<![^\s(){}.;,@])--[^\s-]", line):
+                    yield f"{crate.place(path, number)}: hyphens that may begin a comment or a name"
             for number, line in enumerate(source.lines(), 1):
                 words = antt_tokens(line)
                 if "axiom" in words or {"lem", "ac"} & set(words) or "Prim.Axiom" in line:
@@ -504,17 +531,34 @@ def statement_faults(crates, crate, statement, lists):
 
 def listed_faults(crates, lists):
     stated = {(crate, statement) for crate, _, _, statement in lists.theorems}
-    proved = {(crate, file, theorem) for crate, file, theorem, _ in lists.theorems}
     for crate in crates.values():
         for path, source in crate.specs.items():
             for each in source.definitions.values():
                 if each.sort != "data" and is_closed(each) and (crate.name, each.name) not in {*stated, *lists.data}:
                     yield f"{crate.place(path, each.line)}: no listed theorem proves `{each.name}`"
+    for crate, name in lists.data:
+        if not any(name in source.definitions for source in (crates[crate].specs.values() if crate in crates else ())):
+            yield f"{crate}: DATA has `{name}`, which is not there"
+    for crate, file, name in lists.unstated:
+        source = crates[crate].proofs.get(f"proofs/{file}.antt") if crate in crates else None
+        if not source or name not in source.definitions:
+            yield f"{crate}: UNSTATED has `{name}`, which is not there"
+
+
+def vector_faults(crates, lists):
+    proved = {(crate, file, theorem) for crate, file, theorem, _ in lists.theorems}
+    for crate in crates.values():
         for file in VECTOR_FILES:
             source = crate.proofs.get(f"proofs/{file}.antt")
             for each in source.definitions.values() if source else ():
-                if "abbrev" not in each.marks() and (crate.name, file, each.name) not in {*proved, *lists.unstated}:
+                if stands_alone(each, source) and (crate.name, file, each.name) not in {*proved, *lists.unstated}:
                     yield f"{crate.place(f'proofs/{file}.antt', each.line)}: `{each.name}` is computed and not listed"
+
+
+def stands_alone(each, source):
+    """It is for others, or nothing else in its file cites it."""
+    others = [other for other in source.declarations if other.name != each.name and other.sort != "use"]
+    return "pub" in each.marks() or not any(each.name in other.words for other in others)
 
 
 # ---- must-fail edits
@@ -561,6 +605,7 @@ def all_faults(root, lists):
     yield from said_faults(crates)
     yield from theorem_faults(crates, lists)
     yield from listed_faults(crates, lists)
+    yield from vector_faults(crates, lists)
     yield from edit_faults(crates)
 
 

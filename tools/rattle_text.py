@@ -213,8 +213,14 @@ class RattleSource:
         for found in re.finditer(r"\bghost\s+use\b([^;]*);", self.text):
             yield use_of(found.group(1), line_of(self.text, found.start()))
 
-    def types(self):
-        return set(re.findall(r"\b(?:struct|enum)\s+(\w+)", self.text))
+    @cached_property
+    def structs(self):
+        """The fields of each struct, by its name."""
+        found = {}
+        for head in re.finditer(r"\bstruct\s+(\w+)\s*(?=\{)", self.text):
+            inside = self.text[head.end() + 1 : bracket_end(self.text, head.end()) - 1]
+            found[head.group(1)] = [self.parameter(part).name.split()[-1] for part in split_outside(inside, ",")]
+        return found
 
 
 def use_of(text, line):
@@ -312,6 +318,7 @@ class AnttSource:
     QUOTED = r'"(?:\\.|[^"\\])*"'
 
     def __init__(self, text):
+        self.raw = text
         # A name may hold two hyphens; a comment's stand at a name's start.
         guarded = re.sub(r"(?<=[^\s(){}.;,@\"«»-])--", "\0\0", text)
         self.text = without_comments(guarded, "--", "{-", "-}", self.QUOTED).replace("\0", "-")

@@ -5,14 +5,20 @@ FILES = {
 // Meters. Every shape of contract stands here once.
 ghost use mathlib.Core.Path.{_≡_};
 ghost use Prim.Native.Nat.{_+_, _≤_};
+ghost use mathlib.Core.List.{[], _∷_};
 ghost use lib.ListN.{length};
 ghost use Rattle.meter.specs.Reading.{
-    readingOf, most, sizeIn, storeAfter, partOf, startOf, Pair, pairOf, loadedFrom, addedTo
+    readingOf, most, sizeIn, storeAfter, partOf, startOf, Pair, pairOf, loadedFrom, addedTo, cleared, bothOf
 };
 mod deeper;
 
 pub struct Meter {
     pub total: usize,
+}
+
+pub struct Both {
+    pub size: usize,
+    pub read: u8,
 }
 
 // What stands at a place of the store.
@@ -66,6 +72,20 @@ pub extern "C" fn meter_most(store: &[u8], size: &mut u64) -> u8
     0
 }
 
+#[no_mangle]
+pub extern "C" fn meter_clear(store: &mut [u8])
+    ensures { λ _. ⌜ now (store .exit) ≡ cleared ⌝ }
+{
+    wipe(store);
+}
+
+// The size and the reading, by their fields.
+pub fn both(store: &[u8], at: usize) -> Both
+    ensures { λ r. ⌜ r .size ∷ r .read ∷ [] ≡ bothOf (now (store .entry)) at ⌝ }
+{
+    Both { size: store.len(), read: reading(store, at) }
+}
+
 fn half(x: u8) -> u8
     requires { ⌜ x ≤ 100 ⌝ }
     ensures { λ r. ⌜ r + r ≤ x ⌝ }
@@ -107,6 +127,12 @@ sizeIn (suc n) x = suc n
 unfoldable pub storeAfter : List ℕ → ℕ → List ℕ
 storeAfter [] x = []
 storeAfter (y ∷ ys) x = x ∷ ys
+
+unfoldable pub cleared : List ℕ
+cleared = []
+
+unfoldable pub bothOf : List ℕ → ℕ → List ℕ
+bothOf store at = length store ∷ readingOf store at ∷ []
 
 unfoldable pub partOf : List ℕ → ℕ → List ℕ
 partOf store at = drop at store
@@ -190,12 +216,17 @@ size-says n x = (λ h. refl) , (λ h. refl)
     "crates/meter/proofs/Vectors.antt": """\
 -- specs/Examples.antt, computed.
 use mathlib.Core.Path.{refl}
+use mathlib.Core.List.{[], _∷_}
 use Rattle.meter.specs.Reading.{readingOf}
 use Rattle.meter.specs.Examples.{Example1}
 
-pub example-1 : Example1
+-- serves the next
+second-read : readingOf (7 ∷ 8 ∷ []) 1 ≡ 8
 unfolding readingOf
-example-1 = record { second = refl }
+second-read = refl
+
+pub example-1 : Example1
+example-1 = record { second = second-read }
 """,
     "crates/meter/proofs/half/Proof.antt": "-- `meter::half` meets its contract.\nreturns c = omega arith\n",
     "crates/meter/proofs/Meter/add/Proof.antt": "-- `Meter::add` meets its contract.\nreturns c = search needs\n",
@@ -231,4 +262,4 @@ THEOREMS = [
     ("meter", "Vectors", "example-1", "Example1"),
 ]
 
-DATA = [("meter", "Pair")]
+LISTS = {"theorems": THEOREMS, "data": [("meter", "Pair")], "unstated": []}

@@ -12,39 +12,55 @@ import right
 import wrong
 
 
-def faults_of(files, theorems=tuple(right.THEOREMS)):
-    """What the script finds in a project of these files."""
-    with tempfile.TemporaryDirectory() as folder:
-        root = pathlib.Path(folder).resolve()
-        for path, text in files.items():
-            (root / path).parent.mkdir(parents=True, exist_ok=True)
-            (root / path).write_text(text)
-        return list(promises.all_faults(root, promises.Lists(list(theorems), right.DATA, [])))
+def write(root, path, text):
+    (root / path).parent.mkdir(parents=True, exist_ok=True)
+    (root / path).write_text(text)
+
+
+def faults_in(root, **lists):
+    """What the script finds, by the right project's lists or by others that are named."""
+    return list(promises.all_faults(root, promises.Lists(**{**right.LISTS, **lists})))
 
 
 def changed(source):
-    """The right project's files with one change."""
-    files = dict(right.FILES)
+    """The text of the file that a wrong source changes."""
     if source.old is None:
-        files[source.file] = source.new
+        return source.new
+    text = right.FILES[source.file]
+    if text.count(source.old) != 1:
+        sys.exit(f"promises-test: {source.slip}: the old text occurs {text.count(source.old)} times")
+    return text.replace(source.old, source.new)
+
+
+def faults_with(root, source):
+    """What the script finds in the right project with one change, which is then taken back."""
+    write(root, source.file, changed(source))
+    faults = faults_in(root)
+    if source.old is None:
+        (root / source.file).unlink()
     else:
-        count = files[source.file].count(source.old)
-        if count != 1:
-            sys.exit(f"promises-test: {source.slip}: the old text occurs {count} times")
-        files[source.file] = files[source.file].replace(source.old, source.new)
-    return files
+        write(root, source.file, right.FILES[source.file])
+    return faults
+
+
+def problems_in(root):
+    for path, text in right.FILES.items():
+        write(root, path, text)
+    yield from (f"the right project: {fault}" for fault in faults_in(root))
+    for source in wrong.SOURCES:
+        faults = faults_with(root, source)
+        if not any(fault.startswith(source.place or source.file) and source.fault in fault for fault in faults):
+            yield f"{source.slip}: not refused as `{source.fault}`, but: {faults}"
+    for slip, lists, fault in wrong.LISTS:
+        faults = faults_in(root, **lists)
+        if not any(fault in found for found in faults):
+            yield f"{slip}: not refused as `{fault}`, but: {faults}"
+    yield from (f"the right project once more: {fault}" for fault in faults_in(root))
 
 
 def main():
-    problems = [f"the right project: {fault}" for fault in faults_of(right.FILES)]
-    for source in wrong.SOURCES:
-        faults = faults_of(changed(source))
-        if not any(fault.startswith(source.place or source.file) and source.fault in fault for fault in faults):
-            problems.append(f"{source.slip}: not refused as `{source.fault}`, but: {faults}")
-    for slip, theorems, fault in wrong.LISTS:
-        faults = faults_of(right.FILES, theorems)
-        if not any(fault in found for found in faults):
-            problems.append(f"{slip}: not refused as `{fault}`, but: {faults}")
+    with tempfile.TemporaryDirectory() as folder:
+        problems = list(problems_in(pathlib.Path(folder).resolve()))
     for problem in problems:
         print(problem)
     if problems:
