@@ -23,7 +23,7 @@ Definitions and proofs (specs/ and proofs/)
  - A file of specs/ has no sections. No part of a record, a predicate or a closed statement there is trivially true or left to be found (`_`).
 Statements
  - A theorem of THEOREMS stands once in its file, at the left margin, with its statement alone for a type and its proof right behind. The file imports
-   the statement from the file of specs/ that defines it, closed (`Type 0`, no parameters), and nothing else has its name.
+   the statement from the file of specs/ that defines it, closed (`Type 0`, no parameters) and no data type, and nothing else has its name.
  - Every closed type of specs/ is the statement of a listed theorem or stands in DATA. What the files of VECTOR_FILES prove is listed, but for what
    serves another proof there or stands in UNSTATED. The tables name only what is there.
 Must-fail edits
@@ -172,8 +172,8 @@ def crates_of(root):
 def trivial_parts(words):
     """The parts of a proposition that hold whatever the names in them mean."""
     for group in groups(words):
-        premises = split_words(group, ("→",))
-        if len(premises) > 1 and any(is_proposition(premise) and same(premise, premises[-1]) or premise == ["⊥"] for premise in premises[:-1]):
+        *premises, conclusion = split_words(group, ("→",))
+        if any(premise == ["⊥"] or is_proposition(premise) and same(premise, conclusion) for premise in premises):
             yield " ".join(group)
         for part in split_words(group, ("→", "×", "⊎", ",", ";", "=", ":", "in")):
             for relation in RELATIONS:
@@ -187,6 +187,7 @@ def same(one, other):
 
 
 def is_proposition(words):
+    """Not the type of a number or a list, which a function may take and give."""
     return len(bare(words)) > 1 and bare(words)[0] not in ("List", "Option")
 
 
@@ -197,7 +198,7 @@ def parts_of(words):
     """The parts of a product, with a `let` put in for its name. An implication is one part."""
     words = bare(words)
     if words[:1] == ["let"] and words[2:3] == ["="]:
-        end = next(place for place, word in enumerate(words) if word == "in")
+        end = next((place for place, word in enumerate(words) if word == "in"), len(words))
         value = ["(", *words[3:end], ")"]
         return parts_of([w for word in words[end + 1 :] for w in (value if word == words[1] else [word])])
     if outside(words, ("→",)) or not outside(words, ("×",)):
@@ -217,7 +218,7 @@ class Reading:
     def of(cls, clause, known):
         """`known` are the names that an equation may hold; another may be an operator that takes the equation apart."""
         words = antt_tokens(clause.text)
-        if len(words) < 6 or words[0] != "λ" or words[2] != "." or words[3] != "⌜" or words[-1] != "⌝" or "⌜" in words[4:] or "⌝" in words[:-1]:
+        if words[:1] + words[2:4] + words[-1:] != ["λ", ".", "⌜", "⌝"] or words.count("⌜") + words.count("⌝") != 2:
             return None
         said = words[4:-1]
         plain = known | TIGHT | {words[1], "now", "(", ")", "≡"}
@@ -236,7 +237,7 @@ def contract_faults(crates):
                 for clause in function.clauses:
                     for fault in clause_faults(clause, {*imported}):
                         yield f"{place}, line {clause.line}: {fault}"
-                if function.public and not path.endswith("main.rt"):
+                if function.public and path != "src/main.rt":
                     for fault in public_faults(function, imported, source.structs):
                         yield f"{place} {fault}"
 
@@ -347,9 +348,10 @@ def holds(words, wanted, imported):
 def builds_record(source, name):
     """Its one clause is `f x y .. = record { a = x; b = y; .. }` with each argument the whole of one field: equal values have equal arguments."""
     clauses = [each.words for each in source.declarations if each.sort == "clause" and each.name == name]
-    if len(clauses) != 1:
+    sides = split_words(clauses[0], ("=",)) if len(clauses) == 1 else []
+    if len(sides) != 2:
         return False
-    left, body = split_words(clauses[0], ("=",))
+    left, body = sides
     values = [part[2] for part in split_words(body[2:-1], (";",)) if len(part) == 3 and part[1] == "="]
     return body[:2] == ["record", "{"] and sorted(values) == sorted(left[1:])
 
@@ -374,19 +376,19 @@ def name_faults(crates):
                 for fault in use_faults(use, crate, crates, path.endswith(".rt")):
                     yield f"{crate.place(path, use.line)}: {fault}"
         for path, source in crate.specs.items():
-            for name, line in {*source.named_places, *left_sides(source)}:
-                if name in LIBRARY and name not in CONSTRUCTORS or name in LENT:
+            for name, line in sorted({*source.named_places, *pattern_variables(source)}):
+                if name in LIBRARY or name in LENT:
                     yield f"{crate.place(path, line)}: `{name}` is given another meaning"
                 elif "_" in name[:-1] or name.endswith("_") and name != "_":
                     yield f"{crate.place(path, line)}: `{name}` is an operator of its own"
 
 
-def left_sides(source):
-    """The names on the left sides of clauses: what is defined, and the variables of its patterns."""
+def pattern_variables(source):
+    """The names on the left sides of clauses that are no constructor's."""
     for each in source.declarations:
         if each.sort == "clause":
             at = (outside(each.words, ("=",)) or [0])[0]
-            yield from ((name, each.line) for name in each.words[:at])
+            yield from ((name, each.line) for name in each.words[:at] if name not in CONSTRUCTORS)
 
 
 def use_faults(use, crate, crates, for_contracts):
@@ -525,8 +527,8 @@ def statement_faults(crates, crate, statement, lists):
             each = source.definitions.get(statement)
             if each and not (other.name in stating and path.startswith("specs/")):
                 yield f"another `{statement}` is defined at {other.place(path, each.line)}"
-            elif each and other is crate and not is_closed(each):
-                yield f"the statement at {crate.place(path, each.line)} is not closed"
+            elif each and other is crate and (each.sort == "data" or not is_closed(each)):
+                yield f"the statement at {crate.place(path, each.line)} is not closed, or a data type"
 
 
 def listed_faults(crates, lists):

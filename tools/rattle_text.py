@@ -104,7 +104,7 @@ class Parameter:
 class Function:
     name: str
     line: int
-    public: bool  # pub, or visible to C
+    public: bool  # pub, of a trait, or visible to C
     owner: str  # the type of the `impl` around it, or ""
     parameters: list
     result: str  # its type, or ""
@@ -138,18 +138,18 @@ class RattleSource:
 
     def read_functions(self):
         tokens = list(RATTLE_TOKEN.finditer(self.text))
-        impls = list(self.impls(tokens))
+        impls = list(self.impls())
         for number, token in enumerate(tokens):
             if token.group() == "fn" and number + 1 < len(tokens) and re.match(r"\w", tokens[number + 1].group()):
                 before = self.marks_before(tokens, number)
-                owner = next((name for name, start, end in impls if start < token.start() < end), "")
-                yield self.function(tokens[number + 1], "pub" in before or "extern" in before, owner)
+                owner, of_trait = next(((name, trait) for name, trait, start, end in impls if start < token.start() < end), ("", False))
+                yield self.function(tokens[number + 1], of_trait or "pub" in before or "extern" in before, owner)
 
-    def impls(self, tokens):
-        for token, following in zip(tokens, tokens[1:]):
-            if token.group() == "impl":
-                start = self.text.find("{", token.end())
-                yield following.group(), start, bracket_end(self.text, start)
+    def impls(self):
+        """Each `impl`: its type, whether it is one of a trait, whose functions have no `pub` of their own, and where it begins and ends."""
+        for found in re.finditer(r"\bimpl\b\s*(?:<[^>]*>)?\s*(\w+)([^{;]*)\{", self.text):
+            of_trait = re.search(r"\bfor\s+(\w+)", found.group(2))
+            yield of_trait.group(1) if of_trait else found.group(1), bool(of_trait), found.end(), bracket_end(self.text, found.end() - 1)
 
     def marks_before(self, tokens, number):
         """The words in front of a `fn`, back to the end of what stands before the item."""

@@ -286,6 +286,20 @@ CONTRACTS = [
         "fn shown, line 7: `r ≡ r` is trivially true",
     ),
     Source(
+        "a file with an ending like a program's",
+        "crates/meter/src/domain.rt",
+        None,
+        "pub fn end() -> u8 {\n    0\n}\n",
+        "fn end has no `ensures`",
+    ),
+    Source(
+        "a function of a trait",
+        LIB,
+        "impl Meter {",
+        "impl Reads for Meter {\n    fn read(self) -> u8 {\n        0\n    }\n}\n\nimpl Meter {",
+        "fn read has no `ensures`",
+    ),
+    Source(
         "a field of the result left out",
         LIB,
         "r .size ∷ r .read ∷ []",
@@ -323,6 +337,13 @@ CONTRACTS = [
 ]
 
 NAMES = [
+    Source(
+        "a `none` of its own",
+        READING,
+        "abbrev pub most : ℕ",
+        "pub data Maybe : Type 0 where\n  none : Maybe\n\nabbrev pub most : ℕ",
+        "`none` is given another meaning",
+    ),
     Source("a path of nobody", LAWS, "use lib.ListN.{length}", "use other.ListN.{size}", "is neither a library's nor a crate's"),
     Source(
         "an equality of its own",
@@ -493,6 +514,14 @@ PROOFS = [
 ]
 
 STATEMENTS = [
+    Source(
+        "a statement that is a data type",
+        LAWS,
+        "abbrev pub SizeSays : Type 0\nSizeSays = (n x : ℕ) → (sizeIn n x ≡ 0) ↔ (n ≡ 0)\n",
+        "pub data SizeSays : Type 0 where\n  said : SizeSays\n",
+        "is not closed, or a data type",
+        SAYS,
+    ),
     Source(
         "a computed example that serves nothing",
         VECTORS,
