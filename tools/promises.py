@@ -259,7 +259,7 @@ def clause_faults(clause, known):
         yield f"`{part}` is trivially true"
     if any(is_unit(part) for part in parts_of(reading.words)):
         yield "the clause says nothing"
-    if "_" in reading.words:
+    if leaves_open(reading.words):
         yield "`_` stands for whatever makes the clause true"
     for word in reading.words:
         if "." in word[1:] and word.split(".")[0].split("·")[0] in ("Rattle", "package", "mathlib", "lib", "Prim", "native"):
@@ -464,7 +464,7 @@ def said_faults(crates):
                 for words in said:
                     for part in trivial_parts(words):
                         yield f"{place}: `{part}` is trivially true"
-                    if "_" in words and "λ" not in words:
+                    if leaves_open(words):
                         yield f"{place}: `_` stands for whatever makes `{' '.join(words)}` true"
                 every = any if each.sort == "record" else all
                 if said and every(is_unit(part) for words in said for part in parts_of(words)):
@@ -474,11 +474,21 @@ def said_faults(crates):
 def said_by(each, source):
     """What a record says field by field, or another statement or predicate clause by clause."""
     if each.sort == "record":
-        return [kind for _, _, kind in each.fields()] or [["Unit"]]
+        return each.fields() or [["Unit"]]
     if each.sort != "signature" or split_words(each.type, ("→",))[-1][:1] != ["Type"]:
         return []
     clauses = [clause.words for clause in source.declarations if clause.sort == "clause" and clause.name == each.name]
     return [words[(outside(words, ("=",)) or [0])[0] + 1 :] for words in clauses]
+
+
+def leaves_open(words):
+    """A `_` stands in it that is no name of a `λ`: the prover takes for it whatever fits."""
+    binds = False
+    for word in words:
+        binds = word == "λ" or binds and word != "."
+        if word == "_" and not binds:
+            return True
+    return False
 
 
 def is_unit(words):
@@ -487,7 +497,7 @@ def is_unit(words):
 
 
 def is_closed(each):
-    return not each.parameters() and each.type[:1] == ["Type"] and len(each.type) == 2
+    return not each.parameters() and each.type[:1] == ["Type"] and not outside(each.type, ("→",))
 
 
 # ---- statements

@@ -253,7 +253,7 @@ class Declaration:
         self.words = antt_tokens(self.text)
 
     def marks(self):
-        return [word for word in self.words[: self.marked()]]
+        return self.words[: self.marked()]
 
     def marked(self):
         count = 0
@@ -297,20 +297,15 @@ class Declaration:
         return rest[2 : colon[0]] if rest[0] in ("record", "data") and colon else []
 
     def fields(self):
-        """Of a record: each field's line, names and type."""
-        lines = self.text.split("\n")
-        indents = [len(line) - len(line.lstrip()) for line in lines[1:] if line.strip()]
-        first, found = min(indents, default=0), []
-        for number, line in enumerate(lines[1:], self.line + 1):
-            if line.strip() and len(line) - len(line.lstrip()) == first:
-                found.append((number, line))
-            elif line.strip() and found:
-                found[-1] = (found[-1][0], found[-1][1] + "\n" + line)
-        for number, text in found:
-            words = antt_tokens(text)
-            colon = outside(words, (":",))
-            if colon:
-                yield number, words[: colon[0]], words[colon[0] + 1 :]
+        """The types of a record's fields."""
+        lines = [line for line in self.text.split("\n")[1:] if line.strip()]
+        indents = [len(line) - len(line.lstrip()) for line in lines]
+        found = []
+        for indent, line in zip(indents, lines):
+            if indent == min(indents):
+                found.append([])
+            found[-1] += antt_tokens(line)
+        return [words[outside(words, (":",))[0] + 1 :] for words in found if outside(words, (":",))]
 
 
 class AnttSource:

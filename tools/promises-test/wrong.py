@@ -515,6 +515,13 @@ PROOFS = [
 
 STATEMENTS = [
     Source(
+        "a statement of another level",
+        LAWS,
+        "abbrev pub SizeSays",
+        "abbrev pub Statement : Type 1\nStatement = Type 0\n\nabbrev pub SizeSays",
+        "no listed theorem proves `Statement`",
+    ),
+    Source(
         "a statement that is a data type",
         LAWS,
         "abbrev pub SizeSays : Type 0\nSizeSays = (n x : ℕ) → (sizeIn n x ≡ 0) ↔ (n ≡ 0)\n",
