@@ -60,6 +60,21 @@ fn check_key_and_seal() {
     });
 }
 
+/// Two books that differ in every byte of their key stores print the same text.
+#[test]
+fn a_printed_book_shows_no_key() {
+    for_each_case("wrapper print", some_cases(), |random| {
+        let mut book = books::sound(random);
+        let mut other = book.clone();
+        other.key_store.iter_mut().for_each(|byte| *byte ^= 0xff);
+        let store = format!("key_store: {} bytes", book.key_store.len());
+        let (book, other) = (lend(&mut book), lend(&mut other));
+        same("`{:?}`", &format!("{book:?}"), &format!("{other:?}"))?;
+        same("`{:#?}`", &format!("{book:#?}"), &format!("{other:#?}"))?;
+        same("the store", &true, &format!("{book:?}").contains(&store))
+    });
+}
+
 fn same_key(book: &Book, message: &[u8]) -> Result<(), Difference> {
     let place = reference::key_of_message(book, message);
     let expected = numbered_reference(place).map(|place| book.key_store[place].to_vec());

@@ -34,6 +34,8 @@
 pub mod c;
 mod refusal;
 
+use std::fmt;
+
 pub use refusal::Refusal;
 
 /// The size of the largest card, which is enough room to write any.
@@ -68,7 +70,8 @@ pub struct Accepted {
 /// It is sound when the sizes are so, `rows` is at most n and at most 64, the ids in use ascend
 /// strictly and their key lengths are 1 to 64. Any other book is refused with
 /// [`Refusal::BookNotSound`].
-#[derive(Debug)]
+///
+/// Printed by `{:?}` it shows how large the key store is, and no key.
 pub struct Book<'a> {
     /// Secret ids, n of them.
     pub ids: &'a mut [u32],
@@ -82,6 +85,20 @@ pub struct Book<'a> {
     pub sent: &'a mut [u64],
     /// How many rows are in use.
     pub rows: usize,
+}
+
+/// Written by hand, since a derived one would print the key store.
+impl fmt::Debug for Book<'_> {
+    fn fmt(&self, f: &mut fmt::Formatter<'_>) -> fmt::Result {
+        f.debug_struct("Book")
+            .field("ids", &self.ids)
+            .field("key_lengths", &self.key_lengths)
+            .field("key_store", &format_args!("{} bytes", self.key_store.len()))
+            .field("received", &self.received)
+            .field("sent", &self.sent)
+            .field("rows", &self.rows)
+            .finish()
+    }
 }
 
 impl Book<'_> {
