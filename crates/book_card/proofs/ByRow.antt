@@ -88,7 +88,7 @@ module _ (b : Book) (z : Sized b) (rows : List Row) (o : InOrder rows) (room : l
 
   rows-read : RowsRead b rows (length rows) (loaded b rows)
   unfolding loaded
-  rows-read = record { count = refl; in-use = refl; set = row-set; left = rows-left }
+  rows-read = record { count = refl; in-use = refl; row = row-set; left = rows-left }
 
 pub read-says : ReadSays
 read-says b card n g rows o e =

@@ -77,7 +77,7 @@ pub record RowsLeft (n : ℕ) (b c : Book) : Type 0 where
 pub record RowsRead (b : Book) (rows : List Row) (n : ℕ) (c : Book) : Type 0 where
   pub count : n ≡ length rows
   pub in-use : c .rows ≡ n
-  pub set : (k : ℕ) → k < n → RowSet c k (getD rows k noRow)
+  pub row : (k : ℕ) → k < n → RowSet c k (getD rows k noRow)
   pub left : RowsLeft n b c
 
 abbrev pub ReadSays : Type 0
