@@ -1,0 +1,3 @@
+pub mod Reading
+mod Contents
+pub mod Stages

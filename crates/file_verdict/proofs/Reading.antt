@@ -1,0 +1,39 @@
+-- What one read's answer means (`afterRead`), a law for each end of the decision; and what the loop that reads a file needs of it.
+use Prim.Native.Nat.{ℕ, zero, suc, _+_, _≤_, _<_}
+use mathlib.Core.Path.{_≡_, refl, subst}
+use mathlib.Core.Bool.{Bool, true, false, cond}
+use native.Mathlib.Omega.{arith}
+use borrow.Author.Tests.{le-leb, lt-leb, ltb-true, ne-eqb}
+use lib.Dec.{T, leb, eqb}
+use lib.IntN.{ℤ, pos, negsuc, natAbs}
+use lib.Signed.{ltZ, nonNeg}
+use Rattle.file_verdict.specs.Files.{afterRead}
+use Rattle.file_verdict.specs.declared.Content.the-variants.{Unreadable, Size}
+use Rattle.file_verdict.specs.declared.Progress.the-variants.{Ended, More}
+
+pub not-negative : (z : ℤ) → ltZ z (pos 0) ≡ false → T (nonNeg z)
+not-negative (pos n) e = tt
+not-negative (negsuc n) e = subst T e tt
+
+module _ (have room : ℕ) where
+  pub read-failed : (z : ℤ) → ltZ z (pos 0) ≡ true → Ended Unreadable ≡ afterRead have room z
+  unfolding afterRead
+  read-failed (pos n) e = absurd (let l = ltb-true n 0 e in omega arith)
+  read-failed (negsuc n) e = refl
+
+  pub read-too-much : (z : ℤ) → T (nonNeg z) → room < have + natAbs z → Ended Unreadable ≡ afterRead have room z
+  unfolding afterRead
+  read-too-much (pos n) t h = rw (lt-leb (have + n) room h)
+  read-too-much (negsuc n) t h = refl
+
+  pub read-end : (z : ℤ) → T (nonNeg z) → have ≤ room → natAbs z ≡ 0 → Ended (Size have) ≡ afterRead have room z
+  unfolding afterRead
+  read-end (pos zero) t h e = rw (le-leb (have + 0) room (omega arith))
+  read-end (pos (suc n)) t h e = absurd (omega arith)
+  read-end (negsuc n) t h e = absurd t
+
+  pub read-more : (z : ℤ) → T (nonNeg z) → have + natAbs z ≤ room → 0 < natAbs z → More (have + natAbs z) ≡ afterRead have room z
+  unfolding afterRead
+  read-more (pos zero) t h p = absurd (omega arith)
+  read-more (pos (suc n)) t h p = rw (le-leb (have + suc n) room h, ne-eqb (suc n) 0 (λ e. omega arith))
+  read-more (negsuc n) t h p = absurd t
