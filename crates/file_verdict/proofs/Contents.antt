@@ -32,6 +32,10 @@ module _ (room n : ℕ) where
   limited-fits h l = rw (le-leb n room h, le-leb n fileMost l)
 
 -- a file's bytes by their number
+pub readable-none : readable none ≡ none
+unfolding readable
+readable-none = refl
+
 pub readable-fits : (s : List ℕ) → length s ≤ fileMost → readable (some s) ≡ some s
 unfolding readable
 readable-fits s h = rw (le-leb (length s) fileMost h)

@@ -31,17 +31,18 @@ module _ (b : Book) (file : Option (List ℕ)) where
     counters-kept = sym (ap (receivedFrom b) e)
 
   module _ (s : List ℕ) (e : readable file ≡ some s) where
-    pub card-read : (answer : ReadAnswer) → answer ≡ readOf b s → loadedBy answer ≡ loadedOf b file
+    -- by the answer, and the case of it that was met
+    pub card-read : (answer met : ReadAnswer) → answer ≡ met → answer ≡ readOf b s → loadedBy met ≡ loadedOf b file
     unfolding loadedOf
-    card-read answer a = ap loadedBy a ∙ sym (ap (loadedFrom b) e)
+    card-read answer met m a = sym (ap loadedBy m) ∙ ap loadedBy a ∙ sym (ap (loadedFrom b) e)
 
     pub book-read : (after : Book) → after ≡ readBook b s → after ≡ bookLoaded b file
     unfolding bookLoaded
     book-read after a = a ∙ sym (ap (bookFrom b) e)
 
-    pub message-checked : (verdict : Verdict) → verdict ≡ checkOf b s → verdictLine verdict ≡ messageLine b file
+    pub message-checked : (verdict met : Verdict) → verdict ≡ met → verdict ≡ checkOf b s → verdictLine met ≡ messageLine b file
     unfolding messageLine
-    message-checked verdict v = ap verdictLine v ∙ sym (ap (lineFrom b) e)
+    message-checked verdict met m v = sym (ap verdictLine m) ∙ ap verdictLine v ∙ sym (ap (lineFrom b) e)
 
     pub counter-stored : (after : List ℕ) → after ≡ receivedAfter (checkOf b s) (b .received) → after ≡ receivedLeft b file
     unfolding receivedLeft

@@ -87,13 +87,13 @@ pub fn load_card(
 ) -> Loaded
     ensures answer { λ r. ⌜
         r ≡ loadedOf (bookOf (now (ids .entry)) (now (lengths .entry)) (now (store .entry)) (now (received .entry)) (now (sent .entry)) 0)
-            (fileIn (now (room .entry)) content)
-    ⌝ }
+        (fileIn (now (room .entry)) content)
+        ⌝ }
     ensures after { λ r. ⌜
         bookOf (now (ids .exit)) (now (lengths .exit)) (now (store .exit)) (now (received .exit)) (now (sent .exit)) (rowsLoaded r)
         ≡ bookLoaded (bookOf (now (ids .entry)) (now (lengths .entry)) (now (store .entry)) (now (received .entry)) (now (sent .entry)) 0)
-            (fileIn (now (room .entry)) content)
-    ⌝ }
+        (fileIn (now (room .entry)) content)
+        ⌝ }
 {
     let card = within_limit(content, room.len());
     let Content::Size(size) = card else {
@@ -119,13 +119,13 @@ pub fn message_line(
 ) -> Line
     ensures answer { λ r. ⌜
         r ≡ messageLine (bookOf (now (ids .entry)) (now (lengths .entry)) (now (store .entry)) (now (received .entry)) (now (sent .entry)) rows)
-            (fileIn (now (room .entry)) content)
-    ⌝ }
+        (fileIn (now (room .entry)) content)
+        ⌝ }
     ensures stored { λ _. ⌜
         now (received .exit)
         ≡ receivedLeft (bookOf (now (ids .entry)) (now (lengths .entry)) (now (store .entry)) (now (received .entry)) (now (sent .entry)) rows)
-            (fileIn (now (room .entry)) content)
-    ⌝ }
+        (fileIn (now (room .entry)) content)
+        ⌝ }
 {
     let message = within_limit(content, room.len());
     let Content::Size(size) = message else {

@@ -2,7 +2,7 @@
 use Prim.Native.Nat.{ℕ}
 use mathlib.Core.List.{List}
 use mathlib.Core.Option.{Option}
-use mathlib.Core.Path.{sym, _∙_}
+use mathlib.Core.Path.{sym}
 use lib.Seq.{length-take-le}
 use Rattle.key_book.specs.Book.{Book, bookOf}
 use Rattle.file_verdict.specs.Files.{fileIn}
@@ -70,7 +70,7 @@ returns-2 c =
     let j = judged-size (s .args .room .now) (s .args .content) _ (c .before .before .before .before .before .before .before .before .before .before .before .before .before .before .before .before .before .before .before .before .before .before .before .within-limit .ensures) _ (c .before .before .before .before .before .before .before .before .before .before .before .before .before .before .before .before .before .before .before .before .before .card .given .1) in
     let a = c .before .answer .given .1 in
     let e = c .before .before .before .before .before .before .before .before .before .before .before .before .before .card-read .ensures in
-    (card-read (lent s) (file s) _ (j .1) _ (sym a ∙ e .0), book-read (lent s) (file s) _ (j .1) _ (rw a at (e .1)))
+    (card-read (lent s) (file s) _ (j .1) _ _ a (e .0), book-read (lent s) (file s) _ (j .1) _ (rw a at (e .1)))
 
 same-length-6 : tie.Need-same-length-6
 same-length-6 c = search needs
@@ -93,7 +93,7 @@ returns-3 c =
     let j = judged-size (s .args .room .now) (s .args .content) _ (c .before .before .before .before .before .before .before .before .before .before .before .before .before .before .before .before .before .before .before .before .before .before .before .within-limit .ensures) _ (c .before .before .before .before .before .before .before .before .before .before .before .before .before .before .before .before .before .before .before .before .before .card .given .1) in
     let a = c .before .answer2 .given .1 in
     let e = c .before .before .before .before .before .before .before .before .before .before .before .before .before .card-read .ensures in
-    (card-read (lent s) (file s) _ (j .1) _ (sym a ∙ e .0), book-read (lent s) (file s) _ (j .1) _ (rw a at (e .1)))
+    (card-read (lent s) (file s) _ (j .1) _ _ a (e .0), book-read (lent s) (file s) _ (j .1) _ (rw a at (e .1)))
 
 pub load-card-spec : {M : Type 1} → statement M
 load-card-spec =

@@ -2,7 +2,7 @@
 use Prim.Native.Nat.{ℕ}
 use mathlib.Core.List.{List}
 use mathlib.Core.Option.{Option}
-use mathlib.Core.Path.{sym, _∙_}
+use mathlib.Core.Path.{sym}
 use lib.Seq.{length-take-le}
 use Rattle.key_book.specs.Book.{Book, bookOf}
 use Rattle.file_verdict.specs.Files.{fileIn}
@@ -57,7 +57,7 @@ returns-2 c =
     let s = c .before .before .before .before .before .before .before .before .before .before .before .before .before .before .before .before .before .before in
     let j = judged-size (s .args .room .now) (s .args .content) _ (c .before .before .before .before .before .before .before .before .before .before .before .within-limit .ensures) _ (c .before .before .before .before .before .before .before .before .before .message .given .1) in
     let e = c .before .before .before .before .before .check .ensures in
-    (message-checked (lent s) (file s) _ (j .1) _ (sym (c .before .verdict .given .1) ∙ e .0), counter-stored (lent s) (file s) _ (j .1) _ (e .1))
+    (message-checked (lent s) (file s) _ (j .1) _ _ (c .before .verdict .given .1) (e .0), counter-stored (lent s) (file s) _ (j .1) _ (e .1))
 
 same-length-2 : tie.Need-same-length-2
 same-length-2 c = search needs
@@ -67,7 +67,7 @@ returns-3 c =
     let s = c .before .before .before .before .before .before .before .before .before .before .before .before .before .before .before .before .before .before in
     let j = judged-size (s .args .room .now) (s .args .content) _ (c .before .before .before .before .before .before .before .before .before .before .before .within-limit .ensures) _ (c .before .before .before .before .before .before .before .before .before .message .given .1) in
     let e = c .before .before .before .before .before .check .ensures in
-    (message-checked (lent s) (file s) _ (j .1) _ (sym (c .before .verdict2 .given .1) ∙ e .0), counter-stored (lent s) (file s) _ (j .1) _ (e .1))
+    (message-checked (lent s) (file s) _ (j .1) _ _ (c .before .verdict2 .given .1) (e .0), counter-stored (lent s) (file s) _ (j .1) _ (e .1))
 
 pub message-line-spec : {M : Type 1} → statement M
 message-line-spec =
