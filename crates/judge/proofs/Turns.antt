@@ -1,0 +1,43 @@
+-- One turn of the loop that reads a file: where there was room left, what has ended lies within the room, and what goes on has more, and no more than the room.
+use Prim.Native.Nat.{ℕ, _+_, _≤_, _<_}
+use mathlib.Core.Path.{_≡_, refl}
+use mathlib.Core.Bool.{Bool, true, false, cond}
+use native.Mathlib.Omega.{arith}
+use borrow.Author.Tests.{leb-true, eqb-false}
+use lib.Dec.{leb, eqb}
+use lib.IntN.{ℤ, pos, negsuc}
+use Rattle.file_verdict.specs.declared.Content.{Content}
+use Rattle.file_verdict.specs.declared.Content.the-variants.{Unreadable, Size}
+use Rattle.file_verdict.specs.declared.Progress.{Progress}
+use Rattle.file_verdict.specs.declared.Progress.the-variants.{Ended, More}
+use Rattle.file_verdict.specs.Files.{afterRead}
+use Rattle.judge.specs.Files.{Within}
+
+abbrev Turn : ℕ → ℕ → Progress → Type 0
+Turn have room (Ended content) = Within room content
+Turn have room (More n) = (have < n) × (n ≤ room)
+
+turn : (have room : ℕ) (got : ℤ) → have < room → Turn have room (afterRead have room got)
+unfolding afterRead
+turn have room (negsuc k) h = tt
+turn have room (pos n) h = on (leb (have + n) room) refl (eqb n 0) refl
+  where
+    on : (t : Bool) → leb (have + n) room ≡ t → (u : Bool) → eqb n 0 ≡ u
+        → Turn have room (cond t (cond u (Ended (Size have)) (More (have + n))) (Ended Unreadable))
+    on false e u f = tt
+    on true e true f = h
+    on true e false f =
+        let l = leb-true (have + n) room e in
+        let z = eqb-false n 0 f in
+        (omega arith, l)
+
+-- by the progress that was answered, and the case of it that was met; the room has kept its length
+module _ (have now room : ℕ) (long : now ≡ room) (got : ℤ) (progress : Progress) (e : progress ≡ afterRead have now got) (h : have < room) where
+  answered : Turn have room progress
+  answered = rw (e, long) (turn have room got h)
+
+  pub turn-ended : (content : Content) → progress ≡ Ended content → Within room content
+  turn-ended content m = let t = answered in rw m at t
+
+  pub turn-more : (n : ℕ) → progress ≡ More n → (have < n) × (n ≤ room)
+  turn-more n m = let t = answered in rw m at t
