@@ -21,19 +21,18 @@ module _ (have room : ℕ) where
   read-failed (pos n) e = absurd (let l = ltb-true n 0 e in omega arith)
   read-failed (negsuc n) e = refl
 
-  pub read-too-much : (z : ℤ) → T (nonNeg z) → room < have + natAbs z → Ended Unreadable ≡ afterRead have room z
+  pub read-end : (z : ℤ) → T (nonNeg z) → natAbs z ≡ 0 → Ended (Size have) ≡ afterRead have room z
   unfolding afterRead
-  read-too-much (pos n) t h = rw (lt-leb (have + n) room h)
-  read-too-much (negsuc n) t h = refl
+  read-end (pos zero) t e = refl
+  read-end (pos (suc n)) t e = absurd (omega arith)
+  read-end (negsuc n) t e = absurd t
 
-  pub read-end : (z : ℤ) → T (nonNeg z) → have ≤ room → natAbs z ≡ 0 → Ended (Size have) ≡ afterRead have room z
+  pub read-more : (z : ℤ) → T (nonNeg z) → 0 < natAbs z → have + natAbs z ≤ room → More (have + natAbs z) ≡ afterRead have room z
   unfolding afterRead
-  read-end (pos zero) t h e = rw (le-leb (have + 0) room (omega arith))
-  read-end (pos (suc n)) t h e = absurd (omega arith)
-  read-end (negsuc n) t h e = absurd t
+  read-more (pos n) t p h = rw (ne-eqb n 0 (λ e. omega arith), le-leb (have + n) room h)
+  read-more (negsuc n) t p h = absurd t
 
-  pub read-more : (z : ℤ) → T (nonNeg z) → have + natAbs z ≤ room → 0 < natAbs z → More (have + natAbs z) ≡ afterRead have room z
+  pub read-too-much : (z : ℤ) → T (nonNeg z) → 0 < natAbs z → room < have + natAbs z → Ended Unreadable ≡ afterRead have room z
   unfolding afterRead
-  read-more (pos zero) t h p = absurd (omega arith)
-  read-more (pos (suc n)) t h p = rw (le-leb (have + suc n) room h, ne-eqb (suc n) 0 (λ e. omega arith))
-  read-more (negsuc n) t h p = absurd t
+  read-too-much (pos n) t p h = rw (ne-eqb n 0 (λ e. omega arith), lt-leb (have + n) room h)
+  read-too-much (negsuc n) t p h = refl

@@ -49,7 +49,7 @@ limited room (Size n) = cond (leb n room) (cond (leb n fileMost) (Size n) NoCont
 -- what the answer of one read means, where so many bytes of the room had been read before: negative, it failed; 0 is the end
 unfoldable pub afterRead : ℕ → ℕ → ℤ → Progress
 afterRead have room (negsuc k) = Ended NoContent
-afterRead have room (pos n) = cond (leb (have + n) room) (cond (eqb n 0) (Ended (Size have)) (More (have + n))) (Ended NoContent)
+afterRead have room (pos n) = cond (eqb n 0) (Ended (Size have)) (cond (leb (have + n) room) (More (have + n)) (Ended NoContent))
 
 -- ---- the card
 

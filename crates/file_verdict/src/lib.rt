@@ -47,16 +47,15 @@ pub fn after_read(got: isize, have: usize, room: usize) -> Progress
         return Progress::Ended(Content::Unreadable);
     }
     let more = got as usize;
-    if room < have {
-        return Progress::Ended(Content::Unreadable);
-    }
-    if room - have < more {
-        return Progress::Ended(Content::Unreadable);
-    }
     if more == 0 {
         return Progress::Ended(Content::Size(have));
     }
-    Progress::More(have + more)
+    if have <= room {
+        if more <= room - have {
+            return Progress::More(have + more);
+        }
+    }
+    Progress::Ended(Content::Unreadable)
 }
 
 // The same content where a room of so many bytes can hold it and it is not above the limit.

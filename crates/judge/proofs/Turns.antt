@@ -20,15 +20,15 @@ Turn have room (More n) = (have < n) × (n ≤ room)
 turn : (have room : ℕ) (got : ℤ) → have < room → Turn have room (afterRead have room got)
 unfolding afterRead
 turn have room (negsuc k) h = tt
-turn have room (pos n) h = on (leb (have + n) room) refl (eqb n 0) refl
+turn have room (pos n) h = on (eqb n 0) refl (leb (have + n) room) refl
   where
-    on : (t : Bool) → leb (have + n) room ≡ t → (u : Bool) → eqb n 0 ≡ u
-        → Turn have room (cond t (cond u (Ended (Size have)) (More (have + n))) (Ended Unreadable))
-    on false e u f = tt
-    on true e true f = h
-    on true e false f =
-        let l = leb-true (have + n) room e in
-        let z = eqb-false n 0 f in
+    on : (t : Bool) → eqb n 0 ≡ t → (u : Bool) → leb (have + n) room ≡ u
+        → Turn have room (cond t (Ended (Size have)) (cond u (More (have + n)) (Ended Unreadable)))
+    on true e u f = h
+    on false e false f = tt
+    on false e true f =
+        let z = eqb-false n 0 e in
+        let l = leb-true (have + n) room f in
         (omega arith, l)
 
 -- by the progress that was answered, and the case of it that was met; the room has kept its length

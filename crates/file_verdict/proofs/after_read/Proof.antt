@@ -26,25 +26,25 @@ cast-more c = (not-negative (answer (c .before)) (c .if1 .left), fits-natAbs {w 
 returns-2 : tie.Need-returns-2
 returns-2 c =
     let s = c .before .before in
-    read-too-much (s .args .have) (s .args .room) (answer s) (not-negative (answer s) (c .before .if1 .left)) (omega arith) ∙ ap (afterRead (s .args .have) (s .args .room)) (toZ-ofZ (s .fits .got))
+    read-end (s .args .have) (s .args .room) (answer s) (not-negative (answer s) (c .before .if1 .left)) (omega arith) ∙ ap (afterRead (s .args .have) (s .args .room)) (toZ-ofZ (s .fits .got))
+
+add-t10 : tie.Need-add-t10
+add-t10 c = search needs
 
 returns-3 : tie.Need-returns-3
 returns-3 c =
-    let s = c .before .before .before in
-    read-too-much (s .args .have) (s .args .room) (answer s) (not-negative (answer s) (c .before .before .if1 .left)) (omega arith) ∙ ap (afterRead (s .args .have) (s .args .room)) (toZ-ofZ (s .fits .got))
+    let s = c .before .before .before .before in
+    read-more (s .args .have) (s .args .room) (answer s) (not-negative (answer s) (c .before .before .before .if1 .left)) (omega arith) (omega arith) ∙ ap (afterRead (s .args .have) (s .args .room)) (toZ-ofZ (s .fits .got))
 
 returns-4 : tie.Need-returns-4
 returns-4 c =
     let s = c .before .before .before .before in
-    read-end (s .args .have) (s .args .room) (answer s) (not-negative (answer s) (c .before .before .before .if1 .left)) (omega arith) (omega arith) ∙ ap (afterRead (s .args .have) (s .args .room)) (toZ-ofZ (s .fits .got))
-
-add-t8 : tie.Need-add-t8
-add-t8 c = search needs
+    read-too-much (s .args .have) (s .args .room) (answer s) (not-negative (answer s) (c .before .before .before .if1 .left)) (omega arith) (omega arith) ∙ ap (afterRead (s .args .have) (s .args .room)) (toZ-ofZ (s .fits .got))
 
 returns-5 : tie.Need-returns-5
 returns-5 c =
-    let s = c .before .before .before .before in
-    read-more (s .args .have) (s .args .room) (answer s) (not-negative (answer s) (c .before .before .before .if1 .left)) (omega arith) (omega arith) ∙ ap (afterRead (s .args .have) (s .args .room)) (toZ-ofZ (s .fits .got))
+    let s = c .before .before .before in
+    read-too-much (s .args .have) (s .args .room) (answer s) (not-negative (answer s) (c .before .before .if1 .left)) (omega arith) (omega arith) ∙ ap (afterRead (s .args .have) (s .args .room)) (toZ-ofZ (s .fits .got))
 
 pub after-read-spec : {M : Type 1} → statement M
-after-read-spec = tie.close (tie.spec returns cast-more returns-2 returns-3 returns-4 add-t8 returns-5)
+after-read-spec = tie.close (tie.spec returns cast-more returns-2 add-t10 returns-3 returns-4 returns-5)
