@@ -9,7 +9,7 @@ use Rattle.file_verdict.specs.declared.Loaded.{Loaded}
 use Rattle.file_verdict.specs.declared.Loaded.the-variants.{Stopped, Rows}
 use Rattle.file_verdict.specs.Files.{loadedOf, rowsLoaded, bookLoaded, messageLine, emptyBook}
 use Rattle.file_verdict.proofs.Says.{line-stopped, line-rows}
-use Rattle.judge.specs.Files.{MessageLine, CardLine}
+use Rattle.judge.specs.Files.{CardLine}
 
 module _ (card : Option (List ℕ)) (loaded : Loaded) (e : loaded ≡ loadedOf emptyBook card) where
   pub card-stopped : (line : Line) → loaded ≡ Stopped line → CardLine card line
@@ -17,11 +17,11 @@ module _ (card : Option (List ℕ)) (loaded : Loaded) (e : loaded ≡ loadedOf e
 
   pub card-rows : (n : ℕ) → loaded ≡ Rows n → (ids lengths store received sent : List ℕ)
       → bookOf ids lengths store received sent (rowsLoaded loaded) ≡ bookLoaded emptyBook card
-      → (line : Line) → MessageLine (bookOf ids lengths store received sent n) line → CardLine card line
-  card-rows n m ids lengths store received sent b line l = (
-    l .0,
-    l .1
-        ∙ ap (λ (k : Loaded). messageLine (bookOf ids lengths store received sent (rowsLoaded k)) (l .0)) (sym m)
-        ∙ ap (λ (c : Book). messageLine c (l .0)) b
-        ∙ sym (line-rows card (l .0) n (sym m ∙ e)),
+      → (message : Option (List ℕ)) (line : Line) → line ≡ messageLine (bookOf ids lengths store received sent n) message → CardLine card line
+  card-rows n m ids lengths store received sent b message line l = (
+    message,
+    l
+        ∙ ap (λ (k : Loaded). messageLine (bookOf ids lengths store received sent (rowsLoaded k)) message) (sym m)
+        ∙ ap (λ (c : Book). messageLine c message) b
+        ∙ sym (line-rows card message n (sym m ∙ e)),
   )

@@ -5,9 +5,8 @@
 ghost use mathlib.Core.Path.{_≡_};
 ghost use Prim.Native.Nat.{_+_};
 ghost use lib.ListN.{length};
-ghost use Rattle.key_book.specs.Book.{bookOf};
 ghost use Rattle.file_verdict.specs.Files.{fileMost, fileIn};
-ghost use Rattle.judge.specs.Files.{Within, MessageLine, CardLine, FilesLine};
+ghost use Rattle.judge.specs.Files.{Within, CardLine};
 use file_verdict::Content;
 use file_verdict::FILE_MOST;
 use file_verdict::Loaded;
@@ -51,23 +50,7 @@ fn read_file(name: &[u8], room: &mut [u8]) -> Content
     content
 }
 
-// Reads the message: the line for it by the lent book.
-fn judge_message(
-    ids: &[u32],
-    lengths: &[u8],
-    store: &[u8],
-    received: &mut [u64],
-    sent: &[u64],
-    rows: usize,
-) -> Line
-    ensures { λ r. ⌜ MessageLine (bookOf (now (ids .entry)) (now (lengths .entry)) (now (store .entry)) (now (received .entry)) (now (sent .entry)) rows) r ⌝ }
-{
-    let mut room = [0u8; ROOM];
-    let content = read_file(b"message.bin", &mut room);
-    file_verdict::message_line(content, &room, ids, lengths, store, received, sent, rows)
-}
-
-// The line for a card, which is in the lent room. The message is read only where the card gives rows.
+// The line for a card, which is in the lent room. The message file is looked at only where the card gives rows.
 fn judge_card(content: Content, room: &[u8]) -> Line
     ensures { λ r. ⌜ CardLine (fileIn (now (room .entry)) content) r ⌝ }
 {
@@ -87,21 +70,27 @@ fn judge_card(content: Content, room: &[u8]) -> Line
     );
     match loaded {
         Loaded::Stopped(line) => line,
-        Loaded::Rows(rows) => judge_message(&ids, &lengths, &store, &mut received, &sent, rows),
+        Loaded::Rows(rows) => {
+            let mut message_room = [0u8; ROOM];
+            let message = read_file(b"message.bin", &mut message_room);
+            file_verdict::message_line(
+                message,
+                &message_room,
+                &ids,
+                &lengths,
+                &store,
+                &mut received,
+                &sent,
+                rows,
+            )
+        }
     }
 }
 
-// Reads the card, and then the message where there is one to judge: the line for the two files.
-fn judge_files() -> Line
-    ensures { λ r. ⌜ FilesLine r ⌝ }
-{
-    let mut room = [0u8; ROOM];
-    let content = read_file(b"book.card", &mut room);
-    judge_card(content, &room)
-}
-
 fn main() {
-    let line = judge_files();
+    let mut room = [0u8; ROOM];
+    let card = read_file(b"book.card", &mut room);
+    let line = judge_card(card, &room);
     let mut out = [0u8; LINE_MOST];
     let size = verdict_line::write_line(&mut out, line);
     io::write_all(STDOUT_FILENO, &out[..size]);

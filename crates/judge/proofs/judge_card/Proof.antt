@@ -28,29 +28,44 @@ enum-known-loaded c = search needs
 enum-known-loaded-2 : tie.Need-enum-known-loaded-2
 enum-known-loaded-2 c = search needs
 
-slice-aggregate-judge-message : tie.Need-slice-aggregate-judge-message
-slice-aggregate-judge-message c = search needs
+slice-aggregate-read-file : tie.Need-slice-aggregate-read-file
+slice-aggregate-read-file c = search needs
 
-slice-aggregate-judge-message-2 : tie.Need-slice-aggregate-judge-message-2
-slice-aggregate-judge-message-2 c = search needs
+slice-aggregate-read-file-2 : tie.Need-slice-aggregate-read-file-2
+slice-aggregate-read-file-2 c = search needs
 
-slice-aggregate-judge-message-3 : tie.Need-slice-aggregate-judge-message-3
-slice-aggregate-judge-message-3 c = search needs
+read-file-requires : tie.Need-read-file-requires
+read-file-requires c κs = search needs
 
-slice-aggregate-judge-message-4 : tie.Need-slice-aggregate-judge-message-4
-slice-aggregate-judge-message-4 c = search needs
+slice-aggregate-message-line : tie.Need-slice-aggregate-message-line
+slice-aggregate-message-line c = search needs
 
-slice-aggregate-judge-message-5 : tie.Need-slice-aggregate-judge-message-5
-slice-aggregate-judge-message-5 c = search needs
+slice-aggregate-message-line-2 : tie.Need-slice-aggregate-message-line-2
+slice-aggregate-message-line-2 c = search needs
 
-judge-message-requires : tie.Need-judge-message-requires
-judge-message-requires c κs = search needs
+slice-aggregate-message-line-3 : tie.Need-slice-aggregate-message-line-3
+slice-aggregate-message-line-3 c = search needs
+
+slice-aggregate-message-line-4 : tie.Need-slice-aggregate-message-line-4
+slice-aggregate-message-line-4 c = search needs
+
+slice-aggregate-message-line-5 : tie.Need-slice-aggregate-message-line-5
+slice-aggregate-message-line-5 c = search needs
+
+slice-aggregate-message-line-6 : tie.Need-slice-aggregate-message-line-6
+slice-aggregate-message-line-6 c = search needs
+
+message-line-requires : tie.Need-message-line-requires
+message-line-requires c κs = search needs
 
 returns : tie.Need-returns
 returns c = card-stopped _ _ (c .before .before .before .before .before .before .before .before .load-card .ensures .0) _ (c .before .loaded .given .1)
 
 returns-2 : tie.Need-returns-2
-returns-2 c = card-rows _ _ (c .before .before .before .before .before .before .before .before .before .before .before .before .before .before .before .load-card .ensures .0) _ (c .before .before .before .before .before .before .before .before .loaded2 .given .1) _ _ _ _ _ (c .before .before .before .before .before .before .before .before .before .before .before .before .before .before .before .load-card .ensures .1) _ (c .before .judge-message .ensures)
+returns-2 c =
+    card-rows _ _ (c .before .before .before .before .before .before .before .before .before .before .before .before .before .before .before .before .before .before .before .before .load-card .ensures .0) _
+    (c .before .before .before .before .before .before .before .before .before .before .before .before .before .loaded2 .given .1) _ _ _ _ _
+    (c .before .before .before .before .before .before .before .before .before .before .before .before .before .before .before .before .before .before .before .before .load-card .ensures .1) _ _ (c .before .message-line .ensures .0)
 
 pub judge-card-spec : {M : Type 1} → statement M
 judge-card-spec =
@@ -64,11 +79,15 @@ judge-card-spec =
     load-card-requires
     enum-known-loaded
     enum-known-loaded-2
-    slice-aggregate-judge-message
-    slice-aggregate-judge-message-2
-    slice-aggregate-judge-message-3
-    slice-aggregate-judge-message-4
-    slice-aggregate-judge-message-5
-    judge-message-requires
+    slice-aggregate-read-file
+    slice-aggregate-read-file-2
+    read-file-requires
+    slice-aggregate-message-line
+    slice-aggregate-message-line-2
+    slice-aggregate-message-line-3
+    slice-aggregate-message-line-4
+    slice-aggregate-message-line-5
+    slice-aggregate-message-line-6
+    message-line-requires
     returns
     returns-2)
