@@ -1,7 +1,7 @@
 -- specs/Example9.antt: the lines are computed, down to MD5 for each MAC; the limit goes by the length.
 use Prim.Native.Nat.{ℕ}
 use mathlib.Core.Path.{_≡_, refl}
-use mathlib.Core.Option.{none, some}
+use mathlib.Core.Option.{some}
 use native.Mathlib.Omega.{arith}
 use lib.ListN.{replicate, length-replicate}
 use Rattle.refusal.specs.declared.Refusal.the-variants.{Replay, WrongMac}
@@ -20,7 +20,7 @@ use Rattle.book_card.specs.Numbers.{value, numberAt}
 use Rattle.book_card.specs.Reader.{frontOf, readFrom, readCard}
 use Rattle.book_card.specs.Reading.{slotOf, slotsOf, laid, loaded, readOf, rowsIn, readBook}
 use Rattle.book_card.specs.Examples.{cardB}
-use Rattle.verdict_line.specs.declared.Line.the-variants.{Accepted, Refused, Unreadable}
+use Rattle.verdict_line.specs.declared.Line.the-variants.{Accepted, Refused}
 use Rattle.file_verdict.specs.Files.{readable, loadedOf, bookLoaded, messageLine, lineFor}
 use Rattle.file_verdict.specs.Example9.{messageWith, Example9}
 use Rattle.file_verdict.proofs.Contents.{readable-fits, readable-too-large}

@@ -1,10 +1,10 @@
 -- What one read's answer means (`afterRead`), a law for each end of the decision; and what the loop that reads a file needs of it.
 use Prim.Native.Nat.{ℕ, zero, suc, _+_, _≤_, _<_}
 use mathlib.Core.Path.{_≡_, refl, subst}
-use mathlib.Core.Bool.{Bool, true, false, cond}
+use mathlib.Core.Bool.{true, false}
 use native.Mathlib.Omega.{arith}
 use borrow.Author.Tests.{le-leb, lt-leb, ltb-true, ne-eqb}
-use lib.Dec.{T, leb, eqb}
+use lib.Dec.{T}
 use lib.IntN.{ℤ, pos, negsuc, natAbs}
 use lib.Signed.{ltZ, nonNeg}
 use Rattle.file_verdict.specs.Files.{afterRead}

@@ -1,41 +1,55 @@
--- `LineSays` of specs/Laws.antt: a card that can't be judged stops; a malformed one is refused; and the rows of a good one are loaded into the empty book, by
+-- The closed statements of specs/Laws.antt. `LineSays`: a card that can't be judged stops; a malformed one is refused; and the rows of a good one are loaded into the empty book, by
 -- which the message is checked.
-use Prim.Native.Nat.{ℕ, _≤_, _<_}
-use mathlib.Core.Path.{_≡_, refl, sym, ap, ap₂, _∙_}
-use mathlib.Core.Bool.{true, false}
+use Prim.Native.Nat.{ℕ, _*_, _≤_}
+use mathlib.Core.Path.{_≡_, refl, sym, ap, _∙_}
+use mathlib.Core.Bool.{true}
 use mathlib.Core.List.{List}
 use mathlib.Core.Option.{Option, none, some}
 use native.Mathlib.Omega.{arith}
-use borrow.Author.Tests.{le-ltb}
-use lib.ListN.{length, replicate, length-replicate}
+use borrow.Author.Tests.{le-leb, lt-leb, le-ltb}
+use lib.IntN.{pos}
+use lib.ListN.{length, length-replicate}
 use Rattle.refusal.specs.declared.Refusal.the-variants.{MalformedCard}
 use Rattle.key_book.specs.Limits.{rowsMost, slotSize}
-use Rattle.key_book.specs.Book.{Book, Sized, sized}
+use Rattle.key_book.specs.Book.{Book, sized}
 use Rattle.key_book.proofs.Says.{sized-says}
 use Rattle.delayed_auth.specs.declared.Verdict.{Verdict}
 use Rattle.delayed_auth.specs.Check.{checkOf}
 use Rattle.book_card.specs.Card.{Row}
-use Rattle.book_card.specs.declared.ReadAnswer.{ReadAnswer}
 use Rattle.book_card.specs.declared.ReadAnswer.the-variants.{Refused as ReadRefused, Rows as ReadRows}
 use Rattle.book_card.specs.Reader.{readCard}
-use Rattle.book_card.specs.Reading.{readAs, readOf, rowsIn, readBy, readBook, loaded}
+use Rattle.book_card.specs.Reading.{readOf, rowsIn, readBy, readBook, loaded}
 use Rattle.book_card.proofs.Says.{card-says, malformed-says}
 use Rattle.book_card.proofs.Trips.{largest-card}
 use Rattle.verdict_line.specs.declared.Line.{Line}
 use Rattle.verdict_line.specs.declared.Line.the-variants.{Refused, Unreadable}
-use Rattle.file_verdict.specs.declared.Loaded.{Loaded}
 use Rattle.file_verdict.specs.declared.Loaded.the-variants.{Stopped, Rows}
-use Rattle.file_verdict.specs.Files.{fileMost, readable, loadedOf, bookLoaded, messageLine, verdictLine, emptyBook, lineAfter, lineFor}
-use Rattle.file_verdict.specs.Laws.{CardOf, LineSays}
+use Rattle.file_verdict.specs.Files.{fileMost, fileIn, readable, afterRead}
+use Rattle.file_verdict.specs.Files.{loadedOf, bookLoaded, messageLine, verdictLine, emptyBook, lineAfter, lineFor}
+use Rattle.file_verdict.specs.Laws.{ContentSays, CardOf, LineSays}
 use Rattle.file_verdict.proofs.Contents.{readable-none, readable-fits, readable-too-large}
+use Rattle.file_verdict.proofs.Reading.{read-more, read-too-much}
 use Rattle.file_verdict.proofs.Stages.{card-unreadable, card-read, book-read, message-unreadable, message-checked}
+
+pub content-says : ContentSays
+unfolding afterRead fileIn
+content-says = record {
+  failed = λ have room k. refl;
+  at-end = λ have room. refl;
+  goes-on = λ have room n p h. sym (read-more have room (pos n) tt p h);
+  too-many = λ have room n p h. sym (read-too-much have room (pos n) tt p h);
+  no-file = λ room. refl;
+  held = λ room n h. rw (le-leb n (length room) h);
+  not-held = λ room n h. rw (lt-leb n (length room) h);
+}
 
 -- the line by what is loaded
 pub line-stopped : (card message : Option (List ℕ)) (line : Line) → Stopped line ≡ loadedOf emptyBook card → lineFor card message ≡ line
 unfolding lineFor
 line-stopped card message line e = sym (ap (lineAfter card message) e)
 
-pub line-rows : (card message : Option (List ℕ)) (n : ℕ) → Rows n ≡ loadedOf emptyBook card → lineFor card message ≡ messageLine (bookLoaded emptyBook card) message
+pub line-rows : (card message : Option (List ℕ)) (n : ℕ) → Rows n ≡ loadedOf emptyBook card
+    → lineFor card message ≡ messageLine (bookLoaded emptyBook card) message
 unfolding lineFor
 line-rows card message n e = sym (ap (lineAfter card message) e)
 
@@ -46,7 +60,7 @@ empty-long = length-replicate {A = ℕ} rowsMost 0
 empty-sized : sized emptyBook ≡ true
 empty-sized =
     let l = empty-long in
-    let s = length-replicate {A = ℕ} 4096 0 in
+    let s = length-replicate {A = ℕ} (rowsMost * slotSize) 0 in
     sized-says emptyBook .1 (record { room = omega arith; lengths-agree = refl; store-agrees = omega arith; received-agree = refl; sent-agree = refl })
 
 -- reading into it

@@ -1,5 +1,5 @@
 -- The card's and the message's decisions, a law for each end: the file may not be judged, or its bytes are handed on to reading or check.
-use mathlib.Core.Path.{_≡_, refl, sym, ap, _∙_}
+use mathlib.Core.Path.{_≡_, sym, ap, _∙_}
 use mathlib.Core.List.{List}
 use mathlib.Core.Option.{Option, none, some}
 use Prim.Native.Nat.{ℕ}
@@ -9,7 +9,8 @@ use Rattle.delayed_auth.specs.Check.{checkOf, receivedAfter}
 use Rattle.book_card.specs.declared.ReadAnswer.{ReadAnswer}
 use Rattle.book_card.specs.Reading.{readOf, readBook}
 use Rattle.verdict_line.specs.declared.Line.the-variants.{Unreadable}
-use Rattle.file_verdict.specs.Files.{readable, loadedBy, loadedFrom, loadedOf, bookFrom, bookLoaded, verdictLine, lineFrom, messageLine, receivedFrom, receivedLeft}
+use Rattle.file_verdict.specs.Files.{readable, loadedBy, loadedFrom, loadedOf, bookFrom, bookLoaded}
+use Rattle.file_verdict.specs.Files.{verdictLine, lineFrom, messageLine, receivedFrom, receivedLeft}
 use Rattle.file_verdict.specs.declared.Loaded.the-variants.{Stopped}
 
 module _ (b : Book) (file : Option (List ℕ)) where

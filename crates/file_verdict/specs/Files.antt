@@ -1,7 +1,7 @@
 -- From the two files to the line: document 01, bench example 9. A file is its bytes, or none where it is missing or can't be read.
 -- `lineFor` is the whole decision. It goes in two parts, since the card is judged before the message file is looked at: by `loadedOf` and
 -- `bookLoaded` from the card, and by `messageLine` from the book and the message.
-use Prim.Native.Nat.{ℕ, zero, _+_, _*_}
+use Prim.Native.Nat.{ℕ, _+_, _*_}
 use mathlib.Core.Bool.{cond}
 use mathlib.Core.List.{List}
 use mathlib.Core.Option.{Option, none, some}

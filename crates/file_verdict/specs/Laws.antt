@@ -1,9 +1,10 @@
--- What the line is for any two files, in document 01's words (bench example 9): a closed statement, proved in proofs/Says.antt.
-use Prim.Native.Nat.{ℕ, _≤_, _<_}
+-- What reads and rooms mean, and what the line is for any two files, in document 01's words (bench example 9): closed statements, proved in proofs/Says.antt.
+use Prim.Native.Nat.{ℕ, _+_, _≤_, _<_}
 use mathlib.Core.Path.{_≡_}
 use mathlib.Core.List.{List}
 use mathlib.Core.Option.{Option, none, some}
-use lib.ListN.{length}
+use lib.IntN.{pos, negsuc}
+use lib.ListN.{length, take}
 use Rattle.refusal.specs.declared.Refusal.{Refusal}
 use Rattle.refusal.specs.declared.Refusal.the-variants.{MalformedCard}
 use Rattle.delayed_auth.specs.declared.Verdict.the-variants.{Accepted as CheckAccepted, Refused as CheckRefused}
@@ -12,7 +13,20 @@ use Rattle.book_card.specs.Numbers.{Bytes}
 use Rattle.book_card.specs.Card.{Row, InOrder, cardOf}
 use Rattle.book_card.specs.Reading.{loaded}
 use Rattle.verdict_line.specs.declared.Line.the-variants.{Accepted, Refused, Unreadable}
-use Rattle.file_verdict.specs.Files.{fileMost, emptyBook, lineFor}
+use Rattle.file_verdict.specs.declared.Content.the-variants.{Unreadable as NoContent, Size}
+use Rattle.file_verdict.specs.declared.Progress.the-variants.{Ended, More}
+use Rattle.file_verdict.specs.Files.{fileMost, fileIn, afterRead, emptyBook, lineFor}
+
+pub record ContentSays : Type 0 where
+  -- one read: it failed; it was at the file's end; it gave bytes; or it answers more than it had room for, as no read does
+  pub failed : (have room k : ℕ) → afterRead have room (negsuc k) ≡ Ended NoContent
+  pub at-end : (have room : ℕ) → afterRead have room (pos 0) ≡ Ended (Size have)
+  pub goes-on : (have room n : ℕ) → 0 < n → have + n ≤ room → afterRead have room (pos n) ≡ More (have + n)
+  pub too-many : (have room n : ℕ) → 0 < n → room < have + n → afterRead have room (pos n) ≡ Ended NoContent
+  -- a room holds the file's bytes at its front
+  pub no-file : (room : List ℕ) → fileIn room NoContent ≡ none
+  pub held : (room : List ℕ) (n : ℕ) → n ≤ length room → fileIn room (Size n) ≡ some (take n room)
+  pub not-held : (room : List ℕ) (n : ℕ) → length room < n → fileIn room (Size n) ≡ none
 
 -- the bytes are the card of these rows
 pub record CardOf (card : List ℕ) (rows : List Row) : Type 0 where

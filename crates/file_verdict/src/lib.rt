@@ -4,7 +4,6 @@
 //
 // The book is lent as ids, key lengths, key store, received counters, sent counters and row count, in this order.
 ghost use mathlib.Core.Path.{_≡_};
-ghost use lib.ListN.{length};
 ghost use Rattle.key_book.specs.Book.{bookOf};
 ghost use Rattle.file_verdict.specs.Files.{fileIn, limited, loadedOf, rowsLoaded, bookLoaded, messageLine, receivedLeft, afterRead};
 use book_card::ReadAnswer;

@@ -10,7 +10,7 @@ use Rattle.refusal.specs.Number.{numberOf}
 use Rattle.refusal.specs.declared.Refusal.{Refusal}
 use Rattle.refusal.specs.declared.Refusal.the-variants.{UnsoundBook, MessageSize, WrongCookie, BrokenOptions, NoAuthentication, RepeatedAuthentication, RelayInformation, OtherAuthentication, RequestForm, UnknownSecret, Replay, WrongMac, CounterSpent, TooLong, MalformedCard, NoRoomForCard, NoRoomForRows}
 use Rattle.verdict_line.specs.Decimal.{decimal}
-use Rattle.verdict_line.specs.Line.{lineMost, acceptedLine, refusedLine, lineOf, sizeIn}
+use Rattle.verdict_line.specs.Line.{acceptedLine, refusedLine, lineOf, sizeIn}
 use Rattle.verdict_line.specs.Laws.{DecimalSays, SizeWithin, LongestLine}
 use Rattle.verdict_line.proofs.Digits.{decimal-one, decimal-more, length-word, length-largest}
 
