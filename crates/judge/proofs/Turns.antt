@@ -1,6 +1,6 @@
 -- One turn of the loop that reads a file: where there was room left, what has ended lies within the room, and what goes on has more, and no more than the room.
 use Prim.Native.Nat.{ℕ, _+_, _≤_, _<_}
-use mathlib.Core.Path.{_≡_, refl}
+use mathlib.Core.Path.{_≡_, refl, ap, _∙_}
 use mathlib.Core.Bool.{Bool, true, false, cond}
 use native.Mathlib.Omega.{arith}
 use borrow.Author.Tests.{leb-true, eqb-false}
@@ -11,7 +11,7 @@ use Rattle.file_verdict.specs.declared.Content.the-variants.{Unreadable, Size}
 use Rattle.file_verdict.specs.declared.Progress.{Progress}
 use Rattle.file_verdict.specs.declared.Progress.the-variants.{Ended, More}
 use Rattle.file_verdict.specs.Files.{afterRead}
-use Rattle.judge.specs.Files.{Within}
+use Rattle.judge.specs.Files.{ReadMeans, Within}
 
 abbrev Turn : ℕ → ℕ → Progress → Type 0
 Turn have room (Ended content) = Within room content
@@ -31,10 +31,14 @@ turn have room (pos n) h = on (eqb n 0) refl (leb (have + n) room) refl
         let l = leb-true (have + n) room f in
         (omega arith, l)
 
--- by the progress that was answered, and the case of it that was met; the room has kept its length
-module _ (have now room : ℕ) (long : now ≡ room) (got : ℤ) (progress : Progress) (e : progress ≡ afterRead have now got) (h : have < room) where
+-- one read, into the room's part behind what it has already: the room has kept its length
+pub read-meant : (have now room : ℕ) → now ≡ room → (got : ℤ) (progress : Progress) → progress ≡ afterRead have now got → ReadMeans have room progress
+read-meant have now room l got progress e = (got, e ∙ ap (λ (n : ℕ). afterRead have n got) l)
+
+-- by the progress that was answered, and the case of it that was met
+module _ (have now room : ℕ) (long : now ≡ room) (progress : Progress) (meant : ReadMeans have now progress) (h : have < room) where
   answered : Turn have room progress
-  answered = rw (e, long) (turn have room got h)
+  answered = rw (meant .1, long) (turn have room (meant .0) h)
 
   pub turn-ended : (content : Content) → progress ≡ Ended content → Within room content
   turn-ended content m = let t = answered in rw m at t

@@ -3,10 +3,16 @@ use Prim.Native.Nat.{ℕ, _<_}
 use mathlib.Core.Path.{_≡_}
 use mathlib.Core.List.{List}
 use mathlib.Core.Option.{Option}
+use lib.IntN.{ℤ}
 use Rattle.verdict_line.specs.declared.Line.{Line}
 use Rattle.file_verdict.specs.declared.Content.{Content}
 use Rattle.file_verdict.specs.declared.Content.the-variants.{Unreadable, Size}
-use Rattle.file_verdict.specs.Files.{lineFor}
+use Rattle.file_verdict.specs.declared.Progress.{Progress}
+use Rattle.file_verdict.specs.Files.{afterRead, lineFor}
+
+-- the progress is what some answer of a read means, where so many bytes of the room had been read before
+abbrev pub ReadMeans : ℕ → ℕ → Progress → Type 0
+ReadMeans have room progress = (got : ℤ) × (progress ≡ afterRead have room got)
 
 -- what was read is less than the room, so that the file's end was seen
 abbrev pub Within : ℕ → Content → Type 0

@@ -3,10 +3,10 @@
 // The card is judged before the message file is looked at. Neither file is changed: a counter that is accepted is not written back.
 // Here are the reads and the write; what the files' bytes mean is decided in file_verdict.
 ghost use mathlib.Core.Path.{_≡_};
-ghost use Prim.Native.Nat.{_+_};
-ghost use lib.ListN.{length};
+ghost use Prim.Native.Nat.{_+_, _<_};
+ghost use lib.ListN.{length, take};
 ghost use Rattle.file_verdict.specs.Files.{fileMost, fileIn};
-ghost use Rattle.judge.specs.Files.{Within, CardLine};
+ghost use Rattle.judge.specs.Files.{ReadMeans, Within, CardLine};
 use file_verdict::Content;
 use file_verdict::FILE_MOST;
 use file_verdict::Loaded;
@@ -20,14 +20,23 @@ use verdict_line::Line;
 // The room for a file: a byte more than a file may have, so that one byte too many is seen.
 const ROOM: usize = FILE_MOST + 1;
 
+// Reads once, behind the bytes that the room has already, which stay as they are.
+fn read_more(fd: i32, room: &mut [u8], have: usize) -> Progress
+    requires { ⌜ have < length (now room) ⌝ }
+    ensures kept { λ _. ⌜ take have (now (room .exit)) ≡ take have (now (room .entry)) ⌝ }
+    ensures meant { λ r. ⌜ ReadMeans have (length (now (room .entry))) r ⌝ }
+{
+    let got = libc::read(fd, &mut room[have..]);
+    file_verdict::after_read(got, have, room.len())
+}
+
 // Reads to the end of an open file. A room that is full when the end has not been seen is too small.
 fn read_open(fd: i32, room: &mut [u8]) -> Content
     ensures { λ r. ⌜ Within (length (now (room .entry))) r ⌝ }
 {
     let mut have: usize = 0;
     while have < room.len() {
-        let got = libc::read(fd, &mut room[have..]);
-        let progress = file_verdict::after_read(got, have, room.len());
+        let progress = read_more(fd, room, have);
         match progress {
             Progress::Ended(content) => return content,
             Progress::More(size) => have = size,

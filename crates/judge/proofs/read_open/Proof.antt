@@ -18,20 +18,8 @@ abbrev μ-loop : tie.MeasureT-loop
 loop-holds : tie.Need-loop-holds Inv-loop μ-loop
 loop-holds c = search needs
 
-sub-read : tie.Need-sub-read Inv-loop μ-loop
-sub-read c = search needs
-
-part-read-start : tie.Need-part-read-start Inv-loop μ-loop
-part-read-start c = search needs
-
-part-read-end : tie.Need-part-read-end Inv-loop μ-loop
-part-read-end c = search needs
-
-read-requires : tie.Need-read-requires Inv-loop μ-loop
-read-requires c κs = search needs
-
-after-read-requires : tie.Need-after-read-requires Inv-loop μ-loop
-after-read-requires c κs = search needs
+read-more-requires : tie.Need-read-more-requires Inv-loop μ-loop
+read-more-requires c κs = search needs
 
 enum-known-progress : tie.Need-enum-known-progress Inv-loop μ-loop
 enum-known-progress c = search needs
@@ -40,16 +28,16 @@ same-length : tie.Need-same-length Inv-loop μ-loop
 same-length c = search needs
 
 returns : tie.Need-returns Inv-loop μ-loop
-returns c = turn-ended _ _ _ (search needs) _ _ (c .before .before .before .after-read .ensures) (omega arith) _ (c .before .progress .given .1)
+returns c = turn-ended _ _ _ (search needs) _ (c .before .before .before .before .before .read-more .ensures .1) (omega arith) _ (c .before .progress .given .1)
 
 enum-known-progress-2 : tie.Need-enum-known-progress-2 Inv-loop μ-loop
 enum-known-progress-2 c = search needs
 
 loop-less : tie.Need-loop-less Inv-loop μ-loop
-loop-less c = omega (arith, turn-more _ _ (length (c .before .before .before .before .before .before .before .before .before .before .before .args .room .now)) (search needs) _ _ (c .before .before .before .after-read .ensures) (omega arith) _ (c .before .progress2 .given .1))
+loop-less c = omega (arith, turn-more _ _ (length (c .before .before .before .before .before .before .before .before .before .before .args .room .now)) (search needs) _ (c .before .before .before .before .before .read-more .ensures .1) (omega arith) _ (c .before .progress2 .given .1))
 
 loop-again : tie.Need-loop-again Inv-loop μ-loop
-loop-again c = (turn-more _ _ (length (c .before .before .before .before .before .before .before .before .before .before .before .args .room .now)) (search needs) _ _ (c .before .before .before .after-read .ensures) (omega arith) _ (c .before .progress2 .given .1) .1, search needs)
+loop-again c = (turn-more _ _ (length (c .before .before .before .before .before .before .before .before .before .before .args .room .now)) (search needs) _ (c .before .before .before .before .before .read-more .ensures .1) (omega arith) _ (c .before .progress2 .given .1) .1, search needs)
 
 same-length-2 : tie.Need-same-length-2 Inv-loop μ-loop
 same-length-2 c = search needs
@@ -64,11 +52,7 @@ read-open-spec =
     Inv-loop
     μ-loop
     loop-holds
-    sub-read
-    part-read-start
-    part-read-end
-    read-requires
-    after-read-requires
+    read-more-requires
     enum-known-progress
     same-length
     returns
