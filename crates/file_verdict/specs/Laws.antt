@@ -35,7 +35,7 @@ pub record CardOf (card : List ℕ) (rows : List Row) : Type 0 where
   pub is-card : card ≡ cardOf rows
 
 pub record LineSays : Type 0 where
-  -- the card is missing or above the limit, or it is the card of no rows: whatever stands in the message's place
+  -- the card is missing or above the limit, or its bytes are no card: whatever stands in the message's place
   pub card-missing : (message : Option (List ℕ)) → lineFor none message ≡ Unreadable
   pub card-too-large : (card : List ℕ) → fileMost < length card → (message : Option (List ℕ)) → lineFor (some card) message ≡ Unreadable
   pub card-malformed : (card : List ℕ) → length card ≤ fileMost → Bytes card → ((rows : List Row) → InOrder rows → card ≡ cardOf rows → ⊥)
