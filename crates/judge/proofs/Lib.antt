@@ -1,1 +1,3 @@
 mod Sizes
+mod Turns
+mod Lines

@@ -1,26 +1,14 @@
--- What was read or written lies within the room that was lent for it.
+-- The line lies within the room that was lent for it.
 use mathlib.Core.Path.{_≡_, sym}
 use mathlib.Core.List.{List}
-use Prim.Native.Nat.{ℕ, _≤_, _<_}
+use Prim.Native.Nat.{ℕ, _≤_}
 use native.Mathlib.Omega.{arith}
 use lib.ListN.{length, take}
 use lib.Seq.{length-take-le}
 use Rattle.verdict_line.specs.Line.{sizeIn}
 use Rattle.verdict_line.specs.declared.Line.{Line}
 use Rattle.verdict_line.proofs.Says.{size-within}
-use Rattle.judge.specs.Files.{Within}
-use Rattle.judge.specs.declared.Content.{Content}
-use Rattle.judge.specs.declared.Content.the-variants.{Size}
 
--- a file that was read whole
-module _ (room n : ℕ) (content : Content) (e : content ≡ Size n) (h : Within room content) where
-  pub size-below : n < room
-  size-below = rw e at h
-
-  pub size-taken : (bytes : List ℕ) → length bytes ≡ room → n ≡ length (take n bytes)
-  size-taken bytes l = let b = size-below in sym (length-take-le n bytes (omega arith))
-
--- a line
 module _ (line : Line) (room n : ℕ) (e : n ≡ sizeIn line room) where
   pub line-within : n ≤ room
   line-within = rw e (size-within line room)

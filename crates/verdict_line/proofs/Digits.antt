@@ -2,8 +2,8 @@
 use mathlib.Core.Path.{_≡_, refl, ap, _∙_}
 use mathlib.Core.Bool.{Bool, true, false, cond}
 use mathlib.Core.List.{List, [], _∷_, _++_}
-use Prim.Native.Nat.{ℕ, zero, suc, _+_, _/_, _%_, _^_, _≤_, _<_}
-use native.Mathlib.Nat.{pow-zero, pow-suc, div-lt-iff-lt-mul}
+use Prim.Native.Nat.{ℕ, zero, suc, _+_, _-_, _*_, _/_, _%_, _^_, _≤_, _<_}
+use native.Mathlib.Nat.{pow-zero, pow-suc, div-lt-iff-lt-mul, le-div-iff-mul-le}
 use native.Mathlib.Omega.{arith}
 use borrow.Author.Tests.{lt-ltb, le-ltb, ltb-true, ltb-false}
 use lib.Dec.{ltb}
@@ -59,3 +59,31 @@ length-below (suc k) n h = on (ltb n 10) refl (length-below k (n / 10))
 -- a number of 64 bits has at most twenty digits
 pub length-word : (n : ℕ) → n < 2 ^ 64 → length (decimal n) ≤ 20
 length-word n h = length-below 19 n (omega arith)
+
+-- and from a power of ten on, one more than its exponent
+one-power : (k : ℕ) → 1 ≤ 10 ^ k
+one-power zero = let z = pow-zero 10 in omega arith
+one-power (suc k) =
+    let p = pow-suc 10 k in
+    let z = one-power k in
+    omega arith
+
+length-from : (k n : ℕ) → 10 ^ k ≤ n → suc k ≤ length (decimal n)
+length-from zero n h = on (ltb n 10) refl
+  where
+    on : (t : Bool) → ltb n 10 ≡ t → 1 ≤ length (decimal n)
+    on true e = let l = length-one n (ltb-true n 10 e) in omega arith
+    on false e = let l = length-more n (ltb-false n 10 e) in omega arith
+length-from (suc k) n h =
+    let p : 10 ^ k * 10 ≤ n = rw pow-suc at h in
+    let q = length-from k (n / 10) (le-div-iff-mul-le {k = 10} {x = 10 ^ k} {y = n} (omega arith) .1 p) in
+    let z = one-power k in
+    let l = length-more n (omega arith) in
+    omega arith
+
+-- the largest number of 64 bits has twenty
+pub length-largest : length (decimal (2 ^ 64 - 1)) ≡ 20
+length-largest =
+    let a = length-word (2 ^ 64 - 1) (omega arith) in
+    let b = length-from 19 (2 ^ 64 - 1) (omega arith) in
+    omega arith

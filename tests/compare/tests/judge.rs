@@ -1,17 +1,19 @@
 //! The program `judge` on files in a folder of its own: every answer that files can bring about,
-//! files that are missing, empty, at the limit and above it, a folder in place of a file, and that
-//! it leaves all of them as they were.
+//! files that are missing, empty, at the limit and above it, a folder in place of a file (its read
+//! fails), files that come in pieces, and that it leaves all of them as they were.
 
 use compare::generate::{books, cards, messages};
 use compare::harness::{for_each_case, same, Tally};
-use compare::outside::{judge, run, Folder};
+use compare::outside::{judge, run, run_well, Folder};
 use compare::random::Random;
 use reference::card::{card_of_rows, rows_of_book, Row};
 use reference::examples::{accepted_by_b, message_with, refused_by_b, CARD_B, CARD_EMPTY};
 use reference::{check, read_card, Book};
 use std::fs;
+use std::io::Write;
 use std::process::Command;
-use std::time::SystemTime;
+use std::thread;
+use std::time::{Duration, SystemTime};
 
 const CARD: &str = "book.card";
 const MESSAGE: &str = "message.bin";
@@ -176,6 +178,9 @@ fn unreadable_card() {
     for card in [At::Nothing, At::Folder, At::File(&above)] {
         assert_eq!(judged(card, At::File(&message)), "unreadable\n");
     }
+    for message in [At::Nothing, At::Folder, At::File(&above)] {
+        assert_eq!(judged(At::Folder, message), "unreadable\n");
+    }
     assert_eq!(judged(At::Nothing, At::Nothing), "unreadable\n");
 }
 
@@ -206,6 +211,52 @@ fn files_of_65535_bytes_are_read() {
     let largest = vec![0; 65_535];
     assert_eq!(judged_files(&largest, &accepted_by_b()), "refused 15\n");
     assert_eq!(judged_files(&CARD_B, &largest), "refused 2\n");
+}
+
+/// The line on a folder in which a pipe, which gives its bytes a piece to a read, stands in place
+/// of a file.
+fn judged_in_pieces(folder: &Folder, name: &str, pieces: &[&[u8]]) -> String {
+    let pipe = folder.path().join(name);
+    run_well(Command::new("mkfifo").arg(&pipe));
+    thread::scope(|scope| {
+        scope.spawn(|| {
+            let mut end = fs::OpenOptions::new().write(true).open(&pipe);
+            let end = end.as_mut().expect("a pipe can be opened");
+            for piece in pieces {
+                end.write_all(piece).expect("judge reads the pipe");
+                thread::sleep(Duration::from_millis(20));
+            }
+        });
+        run_well(Command::new(judge()).current_dir(folder.path()))
+    })
+}
+
+/// A read that gives fewer bytes than there is room for is followed by another, which goes on where
+/// it stopped.
+#[test]
+fn a_message_in_pieces() {
+    let message = accepted_by_b();
+    let judged_pieces = |pieces: &[&[u8]]| {
+        let folder = Folder::new();
+        folder.write(CARD, &CARD_B);
+        judged_in_pieces(&folder, MESSAGE, pieces)
+    };
+    let line = judged_pieces(&[&message[..1], &message[1..200], &message[200..]]);
+    assert_eq!(line, "accepted row 0 counter 11\n");
+    let largest = vec![0; 65_535];
+    let line = judged_pieces(&[&largest[..40_000], &largest[40_000..]]);
+    assert_eq!(line, "refused 2\n");
+    let above = vec![0; 65_536];
+    let line = judged_pieces(&[&above[..40_000], &above[40_000..]]);
+    assert_eq!(line, "unreadable\n");
+}
+
+#[test]
+fn a_card_in_pieces() {
+    let folder = Folder::new();
+    folder.write(MESSAGE, &accepted_by_b());
+    let line = judged_in_pieces(&folder, CARD, &[&CARD_B[..3], &CARD_B[3..]]);
+    assert_eq!(line, "accepted row 0 counter 11\n");
 }
 
 /// Random cards and messages get the line that the second implementation's answers make.

@@ -5,8 +5,20 @@ use borrow.Author.Needs.{needs}
 use Rattle.judge.proofs.main.Statement.{statement}
 use Rattle.judge.proofs.main.Tie as tie
 
-judge-files-requires : tie.Need-judge-files-requires
-judge-files-requires c κs = search needs
+slice-aggregate-read-file : tie.Need-slice-aggregate-read-file
+slice-aggregate-read-file c = search needs
+
+slice-aggregate-read-file-2 : tie.Need-slice-aggregate-read-file-2
+slice-aggregate-read-file-2 c = search needs
+
+read-file-requires : tie.Need-read-file-requires
+read-file-requires c κs = search needs
+
+slice-aggregate-judge-card : tie.Need-slice-aggregate-judge-card
+slice-aggregate-judge-card c = search needs
+
+judge-card-requires : tie.Need-judge-card-requires
+judge-card-requires c κs = search needs
 
 slice-aggregate-write-line : tie.Need-slice-aggregate-write-line
 slice-aggregate-write-line c = search needs
@@ -30,7 +42,11 @@ pub main-spec : {M : Type 1} → statement M
 main-spec =
     tie.close
     (tie.spec
-    judge-files-requires
+    slice-aggregate-read-file
+    slice-aggregate-read-file-2
+    read-file-requires
+    slice-aggregate-judge-card
+    judge-card-requires
     slice-aggregate-write-line
     write-line-requires
     array-share-prefix-out

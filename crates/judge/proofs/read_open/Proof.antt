@@ -1,8 +1,11 @@
--- `judge::read_open` is safe and ends, and answers a size below the room's. What has been read never passes the room, which keeps its length. The measure is the room that is left.
+-- `judge::read_open` is safe and ends, and answers a size below the room's (proofs/Turns.antt). What has been read never passes the room, which keeps its length.
+-- The measure is the room that is left.
 use Prim.Native.Nat.{_≤_, _-_}
 use mathlib.Core.Path.{_≡_}
+use native.Mathlib.Omega.{arith}
 use borrow.Author.Needs.{needs}
 use lib.ListN.{length}
+use Rattle.judge.proofs.Turns.{turn-ended, turn-more}
 use Rattle.judge.proofs.read_open.Statement.{statement}
 use Rattle.judge.proofs.read_open.Tie as tie
 
@@ -15,56 +18,32 @@ abbrev μ-loop : tie.MeasureT-loop
 loop-holds : tie.Need-loop-holds Inv-loop μ-loop
 loop-holds c = search needs
 
-sub-read : tie.Need-sub-read Inv-loop μ-loop
-sub-read c = search needs
+read-more-requires : tie.Need-read-more-requires Inv-loop μ-loop
+read-more-requires c κs = search needs
 
-part-read-start : tie.Need-part-read-start Inv-loop μ-loop
-part-read-start c = search needs
-
-part-read-end : tie.Need-part-read-end Inv-loop μ-loop
-part-read-end c = search needs
-
-read-requires : tie.Need-read-requires Inv-loop μ-loop
-read-requires c κs = search needs
+enum-known-progress : tie.Need-enum-known-progress Inv-loop μ-loop
+enum-known-progress c = search needs
 
 same-length : tie.Need-same-length Inv-loop μ-loop
 same-length c = search needs
 
 returns : tie.Need-returns Inv-loop μ-loop
-returns c = search needs
+returns c = turn-ended _ _ _ (search needs) _ (c .before .before .before .before .before .read-more .ensures .1) (omega arith) _ (c .before .progress .given .1)
 
-sub-count : tie.Need-sub-count Inv-loop μ-loop
-sub-count c = search needs
+enum-known-progress-2 : tie.Need-enum-known-progress-2 Inv-loop μ-loop
+enum-known-progress-2 c = search needs
 
-part-count-start : tie.Need-part-count-start Inv-loop μ-loop
-part-count-start c = search needs
+loop-less : tie.Need-loop-less Inv-loop μ-loop
+loop-less c = omega (arith, turn-more _ _ (length (c .before .before .before .before .before .before .before .before .before .before .args .room .now)) (search needs) _ (c .before .before .before .before .before .read-more .ensures .1) (omega arith) _ (c .before .progress2 .given .1))
 
-part-count-end : tie.Need-part-count-end Inv-loop μ-loop
-part-count-end c = search needs
-
-count-requires : tie.Need-count-requires Inv-loop μ-loop
-count-requires c κs = search needs
+loop-again : tie.Need-loop-again Inv-loop μ-loop
+loop-again c = (turn-more _ _ (length (c .before .before .before .before .before .before .before .before .before .before .args .room .now)) (search needs) _ (c .before .before .before .before .before .read-more .ensures .1) (omega arith) _ (c .before .progress2 .given .1) .1, search needs)
 
 same-length-2 : tie.Need-same-length-2 Inv-loop μ-loop
 same-length-2 c = search needs
 
 returns-2 : tie.Need-returns-2 Inv-loop μ-loop
 returns-2 c = search needs
-
-add-have : tie.Need-add-have Inv-loop μ-loop
-add-have c = search needs
-
-loop-less : tie.Need-loop-less Inv-loop μ-loop
-loop-less c = search needs
-
-loop-again : tie.Need-loop-again Inv-loop μ-loop
-loop-again c = search needs
-
-same-length-3 : tie.Need-same-length-3 Inv-loop μ-loop
-same-length-3 c = search needs
-
-returns-3 : tie.Need-returns-3 Inv-loop μ-loop
-returns-3 c = search needs
 
 pub read-open-spec : {M : Type 1} → statement M
 read-open-spec =
@@ -73,20 +52,12 @@ read-open-spec =
     Inv-loop
     μ-loop
     loop-holds
-    sub-read
-    part-read-start
-    part-read-end
-    read-requires
+    read-more-requires
+    enum-known-progress
     same-length
     returns
-    sub-count
-    part-count-start
-    part-count-end
-    count-requires
-    same-length-2
-    returns-2
-    add-have
+    enum-known-progress-2
     loop-less
     loop-again
-    same-length-3
-    returns-3)
+    same-length-2
+    returns-2)

@@ -1,0 +1,5 @@
+pub mod Reading
+mod Contents
+pub mod Stages
+pub mod Says
+pub mod Computed

@@ -1,0 +1,137 @@
+// From the bytes of `book.card` and `message.bin` to the line that the program `judge` writes: document 01, bench example 9.
+// The card is judged first (`load_card`), and only where it gives rows is there a message to judge (`message_line`).
+// Not here: opening and reading the files (judge), and the line's bytes (verdict_line).
+//
+// The book is lent as ids, key lengths, key store, received counters, sent counters and row count, in this order.
+ghost use mathlib.Core.Path.{_≡_};
+ghost use Rattle.key_book.specs.Book.{bookOf};
+ghost use Rattle.file_verdict.specs.Files.{fileIn, limited, loadedOf, rowsLoaded, bookLoaded, messageLine, receivedLeft, afterRead};
+use book_card::ReadAnswer;
+use delayed_auth::Verdict;
+use verdict_line::Line;
+
+// The most bytes that a file may have.
+pub const FILE_MOST: usize = 65535;
+
+// What a file holds.
+pub enum Content {
+    // It is missing, can't be read or is too large.
+    Unreadable,
+    // So many bytes, which are at the front of the room that was lent for them.
+    Size(usize),
+}
+
+// How far the reading of a file is.
+pub enum Progress {
+    // It has ended, and this is what the file holds.
+    Ended(Content),
+    // So many bytes have been read, and there may be more.
+    More(usize),
+}
+
+// The book after its card is judged.
+pub enum Loaded {
+    // There is none, and this is the line.
+    Stopped(Line),
+    // It has so many rows.
+    Rows(usize),
+}
+
+// What the answer of one read means, where `have` bytes had been read before into a room of so many.
+// A read that failed, or that answers more than it had room for, leaves the file unreadable; 0 is the file's end.
+pub fn after_read(got: isize, have: usize, room: usize) -> Progress
+    ensures { λ r. ⌜ r ≡ afterRead have room got ⌝ }
+{
+    if got < 0 {
+        return Progress::Ended(Content::Unreadable);
+    }
+    let more = got as usize;
+    if more == 0 {
+        return Progress::Ended(Content::Size(have));
+    }
+    if have <= room {
+        if more <= room - have {
+            return Progress::More(have + more);
+        }
+    }
+    Progress::Ended(Content::Unreadable)
+}
+
+// The same content where a room of so many bytes can hold it and it is not above the limit.
+fn within_limit(content: Content, room: usize) -> Content
+    ensures { λ r. ⌜ r ≡ limited room content ⌝ }
+{
+    let Content::Size(size) = content else {
+        return Content::Unreadable;
+    };
+    if room < size {
+        return Content::Unreadable;
+    }
+    if FILE_MOST < size {
+        return Content::Unreadable;
+    }
+    Content::Size(size)
+}
+
+// Judges the card, and reads it into the lent book where it is one. A card that can't be read or is refused changes nothing lent.
+pub fn load_card(
+    content: Content,
+    room: &[u8],
+    ids: &mut [u32],
+    lengths: &mut [u8],
+    store: &mut [u8],
+    received: &mut [u64],
+    sent: &mut [u64],
+) -> Loaded
+    ensures answer { λ r. ⌜
+        r ≡ loadedOf (bookOf (now (ids .entry)) (now (lengths .entry)) (now (store .entry)) (now (received .entry)) (now (sent .entry)) 0)
+        (fileIn (now (room .entry)) content)
+        ⌝ }
+    ensures after { λ r. ⌜
+        bookOf (now (ids .exit)) (now (lengths .exit)) (now (store .exit)) (now (received .exit)) (now (sent .exit)) (rowsLoaded r)
+        ≡ bookLoaded (bookOf (now (ids .entry)) (now (lengths .entry)) (now (store .entry)) (now (received .entry)) (now (sent .entry)) 0)
+        (fileIn (now (room .entry)) content)
+        ⌝ }
+{
+    let card = within_limit(content, room.len());
+    let Content::Size(size) = card else {
+        return Loaded::Stopped(Line::Unreadable);
+    };
+    let answer = book_card::card_read(&room[..size], ids, lengths, store, received, sent);
+    match answer {
+        ReadAnswer::Refused(refusal) => Loaded::Stopped(Line::Refused(refusal)),
+        ReadAnswer::Rows(rows) => Loaded::Rows(rows),
+    }
+}
+
+// The line for a message, which is checked by the lent book.
+pub fn message_line(
+    content: Content,
+    room: &[u8],
+    ids: &[u32],
+    lengths: &[u8],
+    store: &[u8],
+    received: &mut [u64],
+    sent: &[u64],
+    rows: usize,
+) -> Line
+    ensures answer { λ r. ⌜
+        r ≡ messageLine (bookOf (now (ids .entry)) (now (lengths .entry)) (now (store .entry)) (now (received .entry)) (now (sent .entry)) rows)
+        (fileIn (now (room .entry)) content)
+        ⌝ }
+    ensures stored { λ _. ⌜
+        now (received .exit)
+        ≡ receivedLeft (bookOf (now (ids .entry)) (now (lengths .entry)) (now (store .entry)) (now (received .entry)) (now (sent .entry)) rows)
+        (fileIn (now (room .entry)) content)
+        ⌝ }
+{
+    let message = within_limit(content, room.len());
+    let Content::Size(size) = message else {
+        return Line::Unreadable;
+    };
+    let verdict = delayed_auth::check(ids, lengths, store, received, sent, rows, &room[..size]);
+    match verdict {
+        Verdict::Accepted(row, counter) => Line::Accepted(row, counter),
+        Verdict::Refused(refusal) => Line::Refused(refusal),
+    }
+}
