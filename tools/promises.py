@@ -25,7 +25,7 @@ Statements
  - A theorem of THEOREMS stands once in its file, at the left margin, with its statement alone for a type and its proof right behind. The file imports
    the statement from the file of specs/ that defines it, closed (`Type 0`, no parameters) and no data type, and nothing else has its name.
  - Every closed type of specs/ is the statement of a listed theorem or stands in DATA. What the files of VECTOR_FILES prove is listed, but for what
-   serves another proof there or stands in UNSTATED. The tables name only what is there.
+   serves another proof there. The tables name only what is there.
 Must-fail edits
  - A line that names the slip, a file of src/ or specs/, and pairs of lines: the old one occurs once, the new one differs.
 """
@@ -81,6 +81,11 @@ THEOREMS = [
     ("book_card", "Computed", "front-example", "FrontExample"),
     ("verdict_line", "Says", "decimal-says", "DecimalSays"),
     ("verdict_line", "Says", "size-within", "SizeWithin"),
+    ("verdict_line", "Says", "longest-line", "LongestLine"),
+    ("verdict_line", "Computed", "line-examples", "LineExamples"),
+    ("file_verdict", "Says", "content-says", "ContentSays"),
+    ("file_verdict", "Says", "line-says", "LineSays"),
+    ("file_verdict", "Computed", "example-9", "Example9"),
     ("demands", "Demand1", "demand-1", "Demand1"),
     ("demands", "Demand2", "demand-2", "Demand2"),
     ("demands", "Demand3", "demand-3", "Demand3"),
@@ -102,14 +107,6 @@ DATA = [
 
 # Proof files of examples and of the RFCs' vectors: everything that they prove is a listed statement.
 VECTOR_FILES = ("Vectors", "Computed", "Examples")
-
-# crate, proof file, name: computed examples that have no statement in specs/.
-UNSTATED = [
-    ("verdict_line", "Computed", "accepted-11"),
-    ("verdict_line", "Computed", "refused-11"),
-    ("verdict_line", "Computed", "zero-digit"),
-    ("verdict_line", "Computed", "inner-zeros"),
-]
 
 # The names that contracts and definitions take from the libraries, by the one path that each comes from.
 LIBRARY = {
@@ -146,7 +143,6 @@ class Lists:
 
     theorems: list = field(default_factory=lambda: THEOREMS)
     data: list = field(default_factory=lambda: DATA)
-    unstated: list = field(default_factory=lambda: UNSTATED)
 
 
 class Crate:
@@ -561,10 +557,6 @@ def listed_faults(crates, lists):
     for crate, name in lists.data:
         if not any(name in source.definitions for source in (crates[crate].specs.values() if crate in crates else ())):
             yield f"{crate}: DATA has `{name}`, which is not there"
-    for crate, file, name in lists.unstated:
-        source = crates[crate].proofs.get(f"proofs/{file}.antt") if crate in crates else None
-        if not source or name not in source.definitions:
-            yield f"{crate}: UNSTATED has `{name}`, which is not there"
 
 
 def vector_faults(crates, lists):
@@ -573,7 +565,7 @@ def vector_faults(crates, lists):
         for file in VECTOR_FILES:
             source = crate.proofs.get(f"proofs/{file}.antt")
             for each in source.definitions.values() if source else ():
-                if stands_alone(each, source) and (crate.name, file, each.name) not in {*proved, *lists.unstated}:
+                if stands_alone(each, source) and (crate.name, file, each.name) not in proved:
                     yield f"{crate.place(f'proofs/{file}.antt', each.line)}: `{each.name}` is computed and not listed"
 
 

@@ -262,4 +262,4 @@ THEOREMS = [
     ("meter", "Vectors", "example-1", "Example1"),
 ]
 
-LISTS = {"theorems": THEOREMS, "data": [("meter", "Pair")], "unstated": []}
+LISTS = {"theorems": THEOREMS, "data": [("meter", "Pair")]}

@@ -717,5 +717,4 @@ LISTS = [
     ("a theorem listed twice", {"theorems": [*right.THEOREMS, right.THEOREMS[0]]}, "`reading-says` is listed twice"),
     ("data that is a statement", {"data": []}, "no listed theorem proves `Pair`"),
     ("data that is not there", {"data": [("meter", "Pair"), ("meter", "More")]}, "DATA has `More`, which is not there"),
-    ("an example that is not there", {"unstated": [("meter", "Vectors", "more")]}, "UNSTATED has `more`, which is not there"),
 ]
