@@ -34,9 +34,9 @@ same-length-3 c = search needs
 returns : tie.Need-returns
 returns c =
     let a = c .before .before .before .before .before .before .before .before .before .before .before .before .before .before
-        .before .before .before .before .before .before .before .before .before .before .before .before .before .before .args in
+    .before .before .before .before .before .before .before .before .before .before .before .before .before .before .args in
     let first = c .before .before .before .before .before .before .before .before .before .before .before .before .before .before
-        .before .before .before .before .check in
+    .before .before .before .before .check in
     let seal = c .before .before .before .before .before .before .before .before .before .before .before .before .seal in
     let second = c .before .before .before .before .before .check2 in
     let g = make-up (a .ids .now) (a .lengths .now) (a .store .now) (a .received .now) (a .sent .now) (a .rows) (a .message .now) (a .id) (a .buffer .now)
