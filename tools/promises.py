@@ -96,6 +96,7 @@ THEOREMS = [
     ("demands", "Bench", "bench-table", "BenchTable"),
     ("worked_runs", "Example3", "example-3", "Example3"),
     ("worked_runs", "Crossed", "crossed", "Crossed"),
+    ("worked_runs", "MoreNumbers", "more-numbers", "MoreNumbers"),
 ]
 
 # crate and name of the closed records that are data and state nothing.

@@ -1,3 +1,4 @@
 pub mod Calls
 pub mod Example3
 pub mod Crossed
+pub mod MoreNumbers

@@ -1,0 +1,31 @@
+-- A case for each of document 01's numbers that is shown as a number nowhere else: 2 to 9 are in dhcp_message/specs/Bench.antt, 10, 11 and 15 in
+-- demands/specs/Bench.antt, 14 in md5/specs/Limits.antt. Book B has one row: id 7, received 10, sent 3, key 1, 2, 3, 4. The one proof is
+-- proofs/MoreNumbers.antt.
+use Prim.Native.Nat.{ℕ}
+use mathlib.Core.Path.{_≡_}
+use mathlib.Core.List.{[], _∷_}
+use Rattle.key_book.specs.Book.{Book, bookOf}
+use Rattle.delayed_auth.specs.Check.{checkOf, verdictNumber}
+use Rattle.delayed_auth.specs.Seal.{sealOf, outcomeNumber}
+use Rattle.book_card.specs.Examples.{bookB, cardB}
+use Rattle.book_card.specs.Reading.{readOf, readNumber}
+use Rattle.book_card.specs.Writing.{writeOf, writeNumber}
+use Rattle.demands.specs.Bench.{numberOnB, wrongMac}
+
+-- no room for a row, and none in use
+abbrev pub noRoom : Book
+noRoom = bookOf [] [] [] [] [] 0
+
+-- book B, its sent counter the largest
+abbrev pub spentB : Book
+spentB = bookOf (bookB .ids) (bookB .lengths) (bookB .store) (bookB .received) (18446744073709551615 ∷ []) 1
+
+pub record MoreNumbers : Type 0 where
+  -- a row in use that there is no room for
+  pub number-1 : verdictNumber (checkOf (bookOf [] [] [] [] [] 1) (wrongMac 11 7)) ≡ 1
+  -- the right secret and a new counter, with some MAC
+  pub number-12 : numberOnB (wrongMac 11 7) ≡ 12
+  pub number-13 : outcomeNumber (sealOf spentB 7 (wrongMac 11 7)) ≡ 13
+  -- a byte less than the card of B has
+  pub number-16 : writeNumber (writeOf bookB 33) ≡ 16
+  pub number-17 : readNumber (readOf noRoom cardB) ≡ 17
