@@ -17,7 +17,7 @@ use Rattle.dhcp_message.specs.Image.{imageOf}
 use Rattle.key_book.specs.Book.{sound, sized, ascending, keySizes, allBelow, placeFrom, rowIn, keyFits, keyIn}
 use Rattle.delayed_auth.specs.Check.{sameBytes, judgedRow, judgedSaid, judgedSound, checkOf}
 use Rattle.book_card.specs.Numbers.{value, numberAt}
-use Rattle.book_card.specs.Reader.{frontOf, readFrom, readCard}
+use Rattle.book_card.specs.Reader.{frontOf, frontFrom, rowsInFront, readCard}
 use Rattle.book_card.specs.Reading.{slotOf, slotsOf, laid, loaded, readOf, rowsIn, readBook}
 use Rattle.book_card.specs.Examples.{cardB}
 use Rattle.verdict_line.specs.declared.Line.the-variants.{Accepted, Refused}
@@ -26,19 +26,27 @@ use Rattle.file_verdict.specs.Example9.{messageWith, Example9}
 use Rattle.file_verdict.proofs.Contents.{readable-fits, readable-too-large}
 
 put-right : lineFor (some cardB) (some (messageWith 11 105)) ≡ Accepted 0 11
-unfolding hmac masked md5 padded padding blocks compress round steps stepAt stepWith rotl auxiliary wordNo additive rotations load loadTo wordAt output saidOf checkedOf checkedTokens decodeAt saidBy formOf imageOf written sound sized ascending keySizes allBelow placeFrom rowIn keyFits keyIn sameBytes judgedRow judgedSaid judgedSound checkOf value numberAt frontOf readFrom readCard slotOf slotsOf laid loaded readOf rowsIn readBook readable loadedOf bookLoaded messageLine lineFor
+unfolding hmac masked md5 padded padding blocks compress round steps stepAt stepWith rotl auxiliary wordNo additive rotations load loadTo wordAt
+    output saidOf checkedOf checkedTokens decodeAt saidBy formOf imageOf written sound sized ascending keySizes allBelow placeFrom rowIn keyFits keyIn
+    sameBytes judgedRow judgedSaid judgedSound checkOf value numberAt frontOf frontFrom rowsInFront readCard slotOf slotsOf laid loaded readOf rowsIn
+    readBook readable loadedOf bookLoaded messageLine lineFor
 put-right = refl
 
 mac-bit-off : lineFor (some cardB) (some (messageWith 11 104)) ≡ Refused WrongMac
-unfolding hmac masked md5 padded padding blocks compress round steps stepAt stepWith rotl auxiliary wordNo additive rotations load loadTo wordAt output saidOf checkedOf checkedTokens decodeAt saidBy formOf imageOf written sound sized ascending keySizes allBelow placeFrom rowIn keyFits keyIn sameBytes judgedRow judgedSaid judgedSound checkOf value numberAt frontOf readFrom readCard slotOf slotsOf laid loaded readOf rowsIn readBook readable loadedOf bookLoaded messageLine lineFor
+unfolding hmac masked md5 padded padding blocks compress round steps stepAt stepWith rotl auxiliary wordNo additive rotations load loadTo wordAt
+    output saidOf checkedOf checkedTokens decodeAt saidBy formOf imageOf written sound sized ascending keySizes allBelow placeFrom rowIn keyFits keyIn
+    sameBytes judgedRow judgedSaid judgedSound checkOf value numberAt frontOf frontFrom rowsInFront readCard slotOf slotsOf laid loaded readOf rowsIn
+    readBook readable loadedOf bookLoaded messageLine lineFor
 mac-bit-off = refl
 
 old-counter : lineFor (some cardB) (some (messageWith 10 105)) ≡ Refused Replay
-unfolding saidOf checkedOf checkedTokens decodeAt saidBy formOf imageOf written sound sized ascending keySizes allBelow placeFrom rowIn keyFits keyIn sameBytes judgedRow judgedSaid judgedSound checkOf value numberAt frontOf readFrom readCard slotOf slotsOf laid loaded readOf rowsIn readBook readable loadedOf bookLoaded messageLine lineFor
+unfolding saidOf checkedOf checkedTokens decodeAt saidBy formOf imageOf written sound sized ascending keySizes allBelow placeFrom rowIn keyFits keyIn
+    sameBytes judgedRow judgedSaid judgedSound checkOf value numberAt frontOf frontFrom rowsInFront readCard slotOf slotsOf laid loaded readOf rowsIn
+    readBook readable loadedOf bookLoaded messageLine lineFor
 old-counter = refl
 
 pub example-9 : Example9
-unfolding sized value numberAt frontOf readFrom readCard readOf readable loadedOf messageLine lineFor
+unfolding sized value numberAt frontOf frontFrom rowsInFront readCard readOf readable loadedOf messageLine lineFor
 example-9 = record {
   put-right = put-right;
   mac-bit-off = mac-bit-off;
