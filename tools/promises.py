@@ -97,6 +97,7 @@ THEOREMS = [
     ("worked_runs", "Example3", "example-3", "Example3"),
     ("worked_runs", "Crossed", "crossed", "Crossed"),
     ("worked_runs", "MoreNumbers", "more-numbers", "MoreNumbers"),
+    ("worked_runs", "OtherBooks", "other-books", "OtherBooks"),
 ]
 
 # crate and name of the closed records that are data and state nothing.

@@ -1,8 +1,9 @@
 -- specs/Examples.antt, computed; the lengths of lists too long to count out by a law.
 use mathlib.Core.Path.{_≡_, refl, _∙_}
-use Prim.Native.Nat.{ℕ, _*_}
+use Prim.Native.Nat.{ℕ, zero, suc, _*_, _<_}
+use native.Mathlib.Omega.{arith}
 use lib.Dec.{leb, eqb}
-use lib.ListN.{length, replicate, length-replicate}
+use lib.ListN.{length, getD, replicate, length-replicate}
 use mathlib.Core.Bool.{true, _&&_}
 use Rattle.key_book.specs.Limits.{slotSize, roomMost}
 use Rattle.key_book.specs.Book.{sound, sized, ascending, keySizes, allBelow}
@@ -16,6 +17,24 @@ room-sized : (n : ℕ) → sized (roomFor n) ≡ (leb n roomMost && eqb n n && e
 unfolding sized
 room-sized n = rw (length-replicate {A = ℕ} n 0, length-replicate {A = ℕ} (64 * n) 0) refl
 
+-- no element of a repeated number reaches a bound above it, nor does what stands for one past the end
+repeats-below : (count x bound k : ℕ) → x < bound → getD (replicate count x) k 0 < bound
+repeats-below zero x bound k h = omega arith
+repeats-below (suc count) x bound zero h = h
+repeats-below (suc count) x bound (suc k) h = repeats-below count x bound k h
+
 pub book-limits : BookLimits
 unfolding sound sized ascending keySizes allBelow
-book-limits = record { most-room = room-sized 1024; too-much-room = room-sized 1025; most-rows = refl; too-many-rows = refl }
+book-limits = record {
+  most-room = room-sized 1024;
+  too-much-room = room-sized 1025;
+  most-rows = refl;
+  too-many-rows = refl;
+  largest-sound = refl;
+  largest-lent = record {
+    id-fits = λ k. repeats-below 1 4294967295 _ k (omega arith);
+    byte-fits = λ k. repeats-below 64 255 _ k (omega arith);
+    received-fits = λ k. repeats-below 1 18446744073709551615 _ k (omega arith);
+    sent-fits = λ k. repeats-below 1 18446744073709551615 _ k (omega arith);
+  };
+}

@@ -29,7 +29,6 @@ bookOf ids lengths store received sent rows = record { ids = ids; lengths = leng
 -- what the types of the lent things give, apart from soundness, which reads no counter (past a list's end `getD` gives 0)
 pub record Lent (b : Book) : Type 0 where
   pub id-fits : (k : ℕ) → getD (b .ids) k 0 < 2 ^ 32
-  pub length-fits : (k : ℕ) → getD (b .lengths) k 0 < 256
   pub byte-fits : (k : ℕ) → getD (b .store) k 0 < 256
   pub received-fits : (k : ℕ) → getD (b .received) k 0 < 2 ^ 64
   pub sent-fits : (k : ℕ) → getD (b .sent) k 0 < 2 ^ 64

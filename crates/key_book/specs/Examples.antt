@@ -5,7 +5,7 @@ use mathlib.Core.List.{List, [], _∷_}
 use Prim.Native.Nat.{ℕ, zero, suc, _*_}
 use lib.ListN.{replicate}
 use Rattle.key_book.specs.Limits.{slotSize}
-use Rattle.key_book.specs.Book.{Book, bookOf, sized, sound}
+use Rattle.key_book.specs.Book.{Book, bookOf, Lent, sized, sound}
 
 -- one row whose key has so many bytes, with room for it
 abbrev pub oneRow : ℕ → Book
@@ -30,9 +30,16 @@ upFrom k (suc n) = k ∷ upFrom (suc k) n
 abbrev pub allUsed : ℕ → Book
 allUsed n = bookOf (upFrom 0 n) (replicate n 1) (replicate (64 * n) 0) (replicate n 0) (replicate n 0) n
 
--- room for 1,024 rows and no more; 64 rows in use and no more
+-- one row whose id, key bytes and counters are the largest of 32, 8 and 64 bits
+abbrev pub largestRow : Book
+largestRow =
+    bookOf (replicate 1 4294967295) (64 ∷ []) (replicate 64 255) (replicate 1 18446744073709551615) (replicate 1 18446744073709551615) 1
+
+-- room for 1,024 rows and no more; 64 rows in use and no more; and `Lent` asks no more than the types give
 pub record BookLimits : Type 0 where
   pub most-room : sized (roomFor 1024) ≡ true
   pub too-much-room : sized (roomFor 1025) ≡ false
   pub most-rows : sound (allUsed 64) ≡ true
   pub too-many-rows : sound (allUsed 65) ≡ false
+  pub largest-sound : sound largestRow ≡ true
+  pub largest-lent : Lent largestRow

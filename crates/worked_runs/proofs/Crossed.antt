@@ -121,7 +121,7 @@ name-unnamed : named unnamed ≡ none
 unfolding named saidOf checkedOf checkedTokens decodeAt saidBy
 name-unnamed = refl
 
-name-A : named (plain (authA ++ relayInfo)) ≡ some idA
+pub name-A : named (plain (authA ++ relayInfo)) ≡ some idA
 unfolding named saidOf checkedOf checkedTokens decodeAt saidBy
 name-A = refl
 
@@ -151,12 +151,12 @@ row-A : rowOf book idA ≡ some 0
 unfolding placeFrom rowIn
 row-A = refl
 
-key-A : keyOf book 0 ≡ keyOf changedB 0
+pub key-A : keyOf book 0 ≡ keyOf changedB 0
 unfolding keyFits keyIn
 key-A = refl
 
 -- what holds of secret A's row holds of the row found
-in-row : (P : ℕ → Type 0) → P 0 → (k : ℕ) → rowOf book idA ≡ some k → P k
+pub in-row : (P : ℕ → Type 0) → P 0 → (k : ℕ) → rowOf book idA ≡ some k → P k
 in-row P h k e = let here : 0 ≡ k = Option·some-injective _ _ (sym row-A ∙ e) in subst P here h
 
 others-differ : OnlyOthersDiffer idA book changedB
