@@ -205,19 +205,25 @@ def implication(words):
 
 
 def premises_in(words):
+    """What is asked for in front of an arrow, part by part."""
     parts = [part for kind in bound_types(words) for part in parts_of(kind)]
     return parts if parts == [words] else [premise for part in parts for premise in premises_in(part)]
 
 
 def never_holds(words):
-    """`⊥`, or plainly as much: `x ≢ x`, `x < x`, `x < 0`, `0 ≡ 1`."""
-    for relation in ("≢", "<", "≡"):
-        sides = [canonical(side) for side in split_words(words, (relation,))]
-        if len(sides) == 2 and all(sides):
-            one, other = sides
-            literals = all(len(side) == 1 and (side[0].isdigit() or side[0] in CONSTRUCTORS) for side in sides)
-            return one != other and literals if relation == "≡" else one == other or relation == "<" and other in (["0"], ["zero"])
-    return words[:1] == ["⊥"]
+    """`⊥`, or plainly as much: `x ≢ x`, `x < x`, `x < 0`, `0 ≡ 1`, `true ≡ false`."""
+    unequal, less, equal = ([canonical(side) for side in split_words(words, (relation,))] for relation in ("≢", "<", "≡"))
+    return (
+        words == ["⊥"]
+        or words[:2] == ["⊥", "{"]
+        or any(len(sides) == 2 and sides[0] == sides[1] for sides in (unequal, less))
+        or len(less) == 2 and less[1] in (["0"], ["zero"])
+        or len(equal) == 2 and equal[0] != equal[1] and all(is_literal(side) for side in equal)
+    )
+
+
+def is_literal(words):
+    return len(words) == 1 and (words[0].isdigit() or words[0] in ("true", "false"))
 
 
 def same(one, other):
@@ -226,7 +232,7 @@ def same(one, other):
 
 def is_proposition(words):
     """Not the type of a number or a list, which a function may take and give."""
-    return bare(words)[:1] not in (["ℕ"], ["List"], ["Option"])
+    return bare(words)[:1] not in (["ℕ"], ["Bool"], ["List"], ["Option"])
 
 
 # ---- contracts

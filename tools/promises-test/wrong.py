@@ -417,7 +417,7 @@ NAMES = [
         "`sizeIn as scaleOf`: `scaleOf` has another meaning elsewhere",
     ),
     Source(
-        "a field under the name of the code's own",
+        "a definition under the name of a field of the code",
         LAWS,
         "storeAfter as stored}",
         "storeAfter as stored, most as total}",
