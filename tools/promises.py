@@ -528,9 +528,11 @@ def said_faults(crates):
 
 
 def said_by(each, source):
-    """What a record says field by field, or another statement or predicate clause by clause."""
+    """What a record says field by field, a predicate that is a data type constructor by constructor, or another clause by clause."""
     if each.sort == "record":
         return each.fields() or [["Unit"]]
+    if each.sort == "data" and (each.parameters() or outside(each.type, ("→",))):
+        return each.fields()
     if each.sort != "signature" or split_words(each.type, ("→",))[-1][:1] != ["Type"]:
         return []
     clauses = [clause.words for clause in source.declarations if clause.sort == "clause" and clause.name == each.name]

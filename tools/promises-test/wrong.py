@@ -746,6 +746,13 @@ STATEMENTS = [
         "`Used` says nothing",
     ),
     Source(
+        "a constructor that gives nothing",
+        LAWS,
+        "abbrev pub SizeSays",
+        "pub data Small : ℕ → Type 0 where\n  small : (x : ℕ) → x < x → Small x\n\nabbrev pub SizeSays",
+        "`Small`: `( x : ℕ ) → x < x → Small x` is trivially true",
+    ),
+    Source(
         "a record without fields",
         LAWS,
         "  pub sizes : length s ≡ length t\n",
