@@ -8,16 +8,18 @@ Prints a line for each fault and fails if there is one. Comments never count: th
 Contracts (src/**/*.rt)
  - No function is foreign: the contract of a function without a body is assumed.
  - Every clause is `⌜ P ⌝`, behind `λ r.` in an `ensures`, and holds no comment. An `ensures` speaks of the result or of what is lent afterwards,
-   and no part of it is trivially true (`x ≡ x`, `A → A`, `Unit`, ..). This holds of private functions and of programs too.
+   and no part of it is trivially true (`x ≡ x`, `A → A`, `(h : x < x) → ..`, `Unit`, ..). This holds of private functions and of programs too.
  - A public function of a library (`pub`, or visible to C; also in an `impl`, also in a deeper file) has no `requires`. Equations fix its result
    (`r ≡ ..`, or each field of it; of a reference what it refers to and where, `now r ≡ ..` and `r .ptr ≡ ..`) and what is behind each `&mut` afterwards
    (`now (p .exit) ≡ ..`, perhaps as an argument of what builds a record of its arguments). Such an equation stands under no premise. Its right side
    names a definition of specs/ and, unless all is lent for writing, a parameter; it names neither the result nor anything `.exit`. Every word of it
-   is known. Every clause names a definition of specs/; every parameter stands in an equation; no parameter hides a name.
+   is known. Every clause names a definition of specs/; every parameter stands in an equation; no parameter hides a name, and behind `λ r.` no name
+   is bound.
 Names (src/ and specs/)
  - The names of LIBRARY come from their library path alone, the names of LENT from nowhere; neither is given another meaning in specs/.
    Contracts take nothing else from a library, definitions no other operator; specs/ has no operator of its own.
- - An import lists its names and takes each from the file of specs/ that defines it.
+ - An import lists its names and takes each from the file of specs/ that defines it. For contracts it gives none another name (`as`); in specs/ the
+   other name is one that nothing has in src/ or specs/.
 Definitions and proofs (specs/ and proofs/)
  - No axiom and no hole. Each file is declared by the Lib.antt beside it; each folder of proofs/ belongs to a function.
  - A file of specs/ has no sections. No part of a record, a predicate or a closed statement there is trivially true or left to be found (`_`).
@@ -35,7 +37,7 @@ import sys
 from dataclasses import dataclass, field
 
 sys.dont_write_bytecode = True
-from rattle_text import AnttSource, RattleSource, antt_tokens, arguments, bare, canonical, groups, outside, split_words
+from rattle_text import AnttSource, RattleSource, antt_tokens, arguments, bare, bound_types, canonical, groups, outside, split_words
 
 # crate, proof file, theorem, its statement: the one place where the statement is proved.
 THEOREMS = [
@@ -135,6 +137,8 @@ LENT = set("now _×_ × ⌜_⌝ Unit ⊥ Type → .entry .exit .ptr".split())
 # The operators of LIBRARY that bind tighter than an equation.
 TIGHT = set("+ - * / % ^ ++ ∷ &&".split())
 RELATIONS = ("≡", "≤", "↔")
+# The words of antt that give a name a meaning inside a term.
+BINDERS = (":", "λ", "∀", "let", "do", "←", "elim")
 # What stands at the left margin of a file of specs/.
 SORTS = ("use", "mod", "signature", "clause", "record", "data")
 
@@ -180,8 +184,9 @@ def crates_of(root):
 def trivial_parts(words):
     """The parts of a proposition that hold whatever the names in them mean."""
     for group in groups(words):
-        *premises, conclusion = split_words(group, ("→",))
-        if any(premise == ["⊥"] or is_proposition(premise) and same(premise, conclusion) for premise in premises):
+        premises, conclusion = implication(group)
+        ends = [part for part in split_words(bare(conclusion), ("×", "⊎")) if is_proposition(part)]
+        if any(never_holds(premise) or any(same(premise, end) for end in ends) for premise in premises):
             yield " ".join(group)
         for part in split_words(group, ("→", "×", "⊎", ",", ";", "=", ":", "in")):
             for relation in RELATIONS:
@@ -190,13 +195,45 @@ def trivial_parts(words):
                     yield " ".join(part)
 
 
+def implication(words):
+    """Its premises, a product's one by one and without the names that they have, and what stands behind the last arrow."""
+    *before, conclusion = split_words(words, ("→",))
+    premises = [premise for part in before for premise in premises_in(part)]
+    if outside(bare(conclusion), ("→",)):
+        more, conclusion = implication(bare(conclusion))
+        premises += more
+    return premises, conclusion
+
+
+def premises_in(words):
+    """What is asked for in front of an arrow, part by part."""
+    parts = [part for kind in bound_types(words) for part in parts_of(kind)]
+    return parts if parts == [words] else [premise for part in parts for premise in premises_in(part)]
+
+
+def never_holds(words):
+    """`⊥`, or plainly as much: `x ≢ x`, `x < x`, `x < 0`, `0 ≡ 1`, `true ≡ false`."""
+    unequal, less, equal = ([canonical(side) for side in split_words(words, (relation,))] for relation in ("≢", "<", "≡"))
+    return (
+        words == ["⊥"]
+        or words[:2] == ["⊥", "{"]
+        or any(len(sides) == 2 and sides[0] == sides[1] for sides in (unequal, less))
+        or len(less) == 2 and less[1] in (["0"], ["zero"])
+        or len(equal) == 2 and equal[0] != equal[1] and all(is_literal(side) for side in equal)
+    )
+
+
+def is_literal(words):
+    return len(words) == 1 and (words[0].isdigit() or words[0] in ("true", "false"))
+
+
 def same(one, other):
     return canonical(one) == canonical(other)
 
 
 def is_proposition(words):
     """Not the type of a number or a list, which a function may take and give."""
-    return len(bare(words)) > 1 and bare(words)[0] not in ("List", "Option")
+    return bare(words)[:1] not in (["ℕ"], ["Bool"], ["List"], ["Option"])
 
 
 # ---- contracts
@@ -300,6 +337,8 @@ def public_faults(function, imported, structs):
     for reading in readings:
         if not cited & set(reading.words):
             yield f"has an `ensures` that names no definition of specs/: `{' '.join(reading.words)}`"
+        for word in sorted({*BINDERS} & {*reading.words}):
+            yield f"has an `ensures` that binds a name by `{word}`, which may hide the result or a parameter"
     results = {reading.result for reading in readings}
     for name in ({*names} | results) & {*imported, *LENT} | results & {*names}:
         yield f"hides the name `{name}`"
@@ -377,12 +416,14 @@ def specs_module(path, crate):
 
 
 def name_faults(crates):
+    given = {name for crate in crates.values() for source in crate.specs.values() for name, _ in source.named_places}
+    given |= {word for crate in crates.values() for source in crate.src.values() for word in re.findall(r"\w+", source.text)}
     for crate in crates.values():
         for path, source in {**crate.src, **crate.specs}.items():
             uses = source.ghost_uses() if path.endswith(".rt") else source.uses()
             for use in uses:
-                for fault in use_faults(use, crate, crates, path.endswith(".rt")):
-                    yield f"{crate.place(path, use.line)}: {fault}"
+                faults = [*use_faults(use, crate, crates, path.endswith(".rt")), *alias_faults(use, given, path.endswith(".rt"))]
+                yield from (f"{crate.place(path, use.line)}: {fault}" for fault in faults)
         for path, source in crate.specs.items():
             for name, line in sorted({*source.named_places, *pattern_variables(source)}):
                 if name in LIBRARY or name in LENT:
@@ -418,6 +459,14 @@ def use_faults(use, crate, crates, for_contracts):
             yield f"`{use.path}` is neither a library's nor a crate's"
         elif name not in LIBRARY and (for_contracts or "_" in name):
             yield f"`{name}` of `{use.path}` is not in the table LIBRARY"
+
+
+def alias_faults(use, given, for_contracts):
+    for name, alias in use.items:
+        if alias != name and for_contracts:
+            yield f"`{name} as {alias}`: what contracts name has its own name"
+        elif alias != name and alias in given:
+            yield f"`{name} as {alias}`: `{alias}` has another meaning elsewhere"
 
 
 def gives(crate, module, name):
@@ -480,9 +529,11 @@ def said_faults(crates):
 
 
 def said_by(each, source):
-    """What a record says field by field, or another statement or predicate clause by clause."""
+    """What a record says field by field, a predicate that is a data type constructor by constructor, or another clause by clause."""
     if each.sort == "record":
         return each.fields() or [["Unit"]]
+    if each.sort == "data" and (each.parameters() or outside(each.type, ("→",))):
+        return each.fields()
     if each.sort != "signature" or split_words(each.type, ("→",))[-1][:1] != ["Type"]:
         return []
     clauses = [clause.words for clause in source.declarations if clause.sort == "clause" and clause.name == each.name]

@@ -413,10 +413,21 @@ def bare(words):
 def group_end(words, at):
     depth = 0
     for place in range(at, len(words)):
-        depth += (words[place] == "(") - (words[place] == ")")
+        depth += (words[place] in ("(", "{")) - (words[place] in (")", "}"))
         if depth == 0:
             return place + 1
     return len(words)
+
+
+def bound_types(words):
+    """What the names of `(x y : A) {z : B}` or of `x y : A` range over; of words that name nothing, the words themselves."""
+    found, at = [], 0
+    while at < len(words) and words[at] in ("(", "{"):
+        end = group_end(words, at)
+        found.append(words[at + 1 : end - 1])
+        at = end
+    binders = found if at == len(words) and all(outside(each, (":",)) for each in found) else [words]
+    return [each[(outside(each, (":",)) or [-1])[0] + 1 :] for each in binders]
 
 
 def canonical(words):
@@ -454,5 +465,5 @@ def groups(words):
     """The words themselves and what stands in each of their brackets, however deep."""
     yield words
     for at, word in enumerate(words):
-        if word == "(":
+        if word in ("(", "{"):
             yield words[at + 1 : group_end(words, at) - 1]

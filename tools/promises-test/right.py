@@ -67,7 +67,7 @@ pub fn part<'k>(store: &'k [u8], at: usize) -> &'k [u8]
 
 #[no_mangle]
 pub extern "C" fn meter_most(store: &[u8], size: &mut u64) -> u8
-    ensures { λ r. ⌜ (let s = now (store .entry) in (r ≡ readingOf s most) × (now (size .exit) ≡ sizeIn (length s) 0)) ⌝ }
+    ensures { λ r. ⌜ (r ≡ readingOf (now (store .entry)) most) × (now (size .exit) ≡ sizeIn (length (now (store .entry))) 0) ⌝ }
 {
     0
 }
@@ -168,12 +168,13 @@ use mathlib.Core.Logic.{_↔_}
 use Prim.Native.Nat.{ℕ, _≤_, _<_}
 use mathlib.Core.List.{List}
 use lib.ListN.{length}
-use Rattle.meter.specs.Reading.{most, readingOf, sizeIn, scaleOf}
+use Rattle.meter.specs.Reading.{most, readingOf, sizeIn, scaleOf, storeAfter as stored}
 
 pub record ReadingSays : Type 0 where
   -- past the end it is 0
   pub past : (s : List ℕ) (i : ℕ) → length s ≤ i → readingOf s i ≡ 0
   pub scaled : (x : ℕ) → scaleOf x ≤ most
+  pub longer : (s : List ℕ) (x : ℕ) → (h : length s ≤ 0 → ⊥) → (length (stored s x) < length s → ⊥)
 
 abbrev pub SizeSays : Type 0
 SizeSays = (n x : ℕ) → (sizeIn n x ≡ 0) ↔ (n ≡ 0)
@@ -208,6 +209,7 @@ unfolding readingOf
 reading-says = record {
     past = λ s i h. refl;
     scaled = λ x. search needs;
+    longer = λ s x h. omega arith;
 }
 
 pub size-says : SizeSays

@@ -2,6 +2,7 @@
 from dataclasses import dataclass
 
 import right
+from rattle_text import antt_tokens as tokens
 
 LIB = "crates/meter/src/lib.rt"
 SCALE = "crates/meter/src/deeper/scale.rt"
@@ -127,7 +128,35 @@ CONTRACTS = [
         SCALE,
         "⌜ r ≡ scaleOf x ⌝",
         "⌜ (let r = scaleOf x in r ≡ scaleOf x) ⌝",
-        "fn scale has no equation that fixes its result",
+        "fn scale has an `ensures` that binds a name by `let`",
+    ),
+    Source(
+        "another name for the result by `let`, behind a product",
+        SCALE,
+        "⌜ r ≡ scaleOf x ⌝",
+        "⌜ (scaleOf r ≤ x) × let r = scaleOf x in (r ≤ x) × (r ≡ scaleOf x) ⌝",
+        "fn scale has an `ensures` that binds a name by `let`",
+    ),
+    Source(
+        "there is a number like the result",
+        SCALE,
+        "⌜ r ≡ scaleOf x ⌝",
+        "⌜ ((r : ℕ) × (r ≡ scaleOf x)) ⌝",
+        "fn scale has an `ensures` that binds a name by `:`",
+    ),
+    Source(
+        "the result of some parameter",
+        SCALE,
+        "⌜ r ≡ scaleOf x ⌝",
+        "⌜ (x : ℕ) × (r ≡ scaleOf x) ⌝",
+        "fn scale has an `ensures` that binds a name by `:`",
+    ),
+    Source(
+        "a second result",
+        SCALE,
+        "⌜ r ≡ scaleOf x ⌝",
+        "⌜ (λ r. (r ≤ x) × (r ≡ scaleOf x)) (scaleOf x) ⌝",
+        "fn scale has an `ensures` that binds a name by `λ`",
     ),
     Source(
         "a constant answer",
@@ -195,7 +224,7 @@ CONTRACTS = [
     Source(
         "an exported function's place left out",
         LIB,
-        " × (now (size .exit) ≡ sizeIn (length s) 0)",
+        " × (now (size .exit) ≡ sizeIn (length (now (store .entry))) 0)",
         "",
         "fn meter_most has no equation that fixes `size` afterwards",
     ),
@@ -365,6 +394,41 @@ NAMES = [
         "use mathlib.Core.Path.{_≡_}",
         "use mathlib.Core.Other.{_≡_}",
         "`_≡_` is taken from",
+    ),
+    Source(
+        "a definition under another's name in a contract",
+        SCALE,
+        "{scaleOf}",
+        "{most as scaleOf}",
+        "`most as scaleOf`: what contracts name has its own name",
+    ),
+    Source(
+        "a function that leaves a store out, under the name of one that builds a record",
+        LIB,
+        "Pair, pairOf, loadedFrom",
+        "Pair, loadedFrom as pairOf, loadedFrom",
+        "`loadedFrom as pairOf`: what contracts name has its own name",
+    ),
+    Source(
+        "a definition under another's name in a statement",
+        LAWS,
+        "sizeIn, scaleOf, storeAfter as stored}",
+        "sizeIn, sizeIn as scaleOf, storeAfter as stored}",
+        "`sizeIn as scaleOf`: `scaleOf` has another meaning elsewhere",
+    ),
+    Source(
+        "a definition under the name of a field of the code",
+        LAWS,
+        "storeAfter as stored}",
+        "storeAfter as stored, most as total}",
+        "`most as total`: `total` has another meaning elsewhere",
+    ),
+    Source(
+        "a definition under a library name in a statement",
+        LAWS,
+        "sizeIn, scaleOf, storeAfter as stored}",
+        "sizeIn, scaleOf, storeAfter as stored, storeAfter as drop}",
+        "`drop` is taken from",
     ),
     Source("a `now` of its own", SCALE, "{scaleOf}", "{scaleOf, scaleOf as now}", "`now` is taken from"),
     Source(
@@ -630,6 +694,44 @@ STATEMENTS = [
         "`ReadingSays` says nothing in a part",
     ),
     Source(
+        "a field that is its own premise, by name",
+        LAWS,
+        "(x : ℕ) → scaleOf x ≤ most",
+        "(x : ℕ) (h : scaleOf x ≤ most) → scaleOf x ≤ most",
+        "`ReadingSays`: `( x : ℕ ) ( h : scaleOf x ≤ most ) → scaleOf x ≤ most` is trivially true",
+    ),
+    Source(
+        "a field that is a part of its premise",
+        LAWS,
+        "(x : ℕ) → scaleOf x ≤ most",
+        "(x : ℕ) (h : (x ≤ most) × (scaleOf x ≤ most)) → (x ≤ 9 → scaleOf x ≤ most)",
+        "is trivially true",
+    ),
+    Source(
+        "a statement that is its own premise",
+        LAWS,
+        "SizeSays = (n x : ℕ) → (sizeIn n x ≡ 0) ↔ (n ≡ 0)",
+        "SizeSays = {h : ReadingSays} → ReadingSays",
+        "`SizeSays`: `{ h : ReadingSays } → ReadingSays` is trivially true",
+    ),
+    Source(
+        "a part that is a premise",
+        LAWS,
+        "(n x : ℕ) → (sizeIn n x ≡ 0) ↔ (n ≡ 0)",
+        "(n x : ℕ) → n ≡ 0 → (n ≡ 0) × (sizeIn n x ≡ 0)",
+        "is trivially true",
+    ),
+    *(
+        Source(
+            f"a premise `{premise}`",
+            LAWS,
+            "(x : ℕ) → scaleOf x ≤ most",
+            f"(x : ℕ) → {premise} → scaleOf x ≤ most",
+            f"→ {' '.join(tokens(premise))} → scaleOf x ≤ most` is trivially true",
+        )
+        for premise in ("(h : ⊥)", "{h : ⊥}", "x ≢ x", "x < x", "(h : (x) < x)", "x < 0", "(most ≤ x) × (0 ≡ 1)", "(k : ℕ) {h : k ≢ k}")
+    ),
+    Source(
         "a field left to be found",
         LAWS,
         "readingOf s i ≡ 0",
@@ -642,6 +744,13 @@ STATEMENTS = [
         "Used (x ∷ xs) = Used xs",
         "Used (x ∷ xs) = Unit {0}",
         "`Used` says nothing",
+    ),
+    Source(
+        "a constructor that gives nothing",
+        LAWS,
+        "abbrev pub SizeSays",
+        "pub data Small : ℕ → Type 0 where\n  small : (x : ℕ) → x < x → Small x\n\nabbrev pub SizeSays",
+        "`Small`: `( x : ℕ ) → x < x → Small x` is trivially true",
     ),
     Source(
         "a record without fields",
@@ -706,7 +815,7 @@ LISTS = [
     (
         "a theorem left out of the list",
         {"theorems": right.THEOREMS[:1] + right.THEOREMS[2:]},
-        "crates/meter/specs/Laws.antt:14: no listed theorem proves `SizeSays`",
+        "crates/meter/specs/Laws.antt:15: no listed theorem proves `SizeSays`",
     ),
     (
         "a vector left out of the list",

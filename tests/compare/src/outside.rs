@@ -4,8 +4,10 @@
 use std::env;
 use std::fs;
 use std::path::{Path, PathBuf};
-use std::process::{Command, Output};
+use std::process::{Command, Output, Stdio};
 use std::sync::atomic::{AtomicUsize, Ordering};
+use std::thread;
+use std::time::{Duration, Instant};
 
 /// A file of the repository, by its path from the top.
 pub fn repository_file(path: &str) -> PathBuf {
@@ -84,6 +86,35 @@ pub fn run(command: &mut Command) -> Output {
 /// Runs a command that must succeed, and gives what it wrote.
 pub fn run_well(command: &mut Command) -> String {
     let output = run(command);
+    written(command, output)
+}
+
+/// Runs a command that must succeed within a time, at the end of which it is stopped, and gives
+/// what it wrote: a few lines, which a pipe has room for.
+pub fn run_within(limit: Duration, command: &mut Command) -> String {
+    let started = Instant::now();
+    let mut child = command
+        .stdin(Stdio::null())
+        .stdout(Stdio::piped())
+        .stderr(Stdio::piped())
+        .spawn()
+        .unwrap_or_else(|error| panic!("{command:?} can't be started: {error}"));
+    while child.try_wait().expect("a child has a state").is_none() {
+        if started.elapsed() > limit {
+            child.kill().expect("a child can be stopped");
+            child.wait().expect("a stopped child ends");
+            panic!("{command:?} has not ended after {limit:?}");
+        }
+        thread::sleep(Duration::from_millis(5));
+    }
+    let output = child
+        .wait_with_output()
+        .expect("a child's pipes can be read");
+    written(command, output)
+}
+
+/// What a command wrote, which must have succeeded.
+fn written(command: &Command, output: Output) -> String {
     let out = String::from_utf8_lossy(&output.stdout).into_owned();
     let errors = String::from_utf8_lossy(&output.stderr);
     assert!(

@@ -1,16 +1,18 @@
 //! The program `judge` on files in a folder of its own: every answer that files can bring about,
 //! files that are missing, empty, at the limit and above it, a folder in place of a file (its read
-//! fails), files that come in pieces, and that it leaves all of them as they were.
+//! fails), a read that fails behind one that passed, files that come in pieces, that the message is
+//! not opened before the card is judged, and that judge leaves all of them as they were.
 
 use compare::generate::{books, cards, messages};
 use compare::harness::{for_each_case, same, Tally};
-use compare::outside::{judge, run, run_well, Folder};
+use compare::outside::{judge, repository_file, run, run_well, run_within, Folder};
 use compare::random::Random;
 use reference::card::{card_of_rows, rows_of_book, Row};
 use reference::examples::{accepted_by_b, message_with, refused_by_b, CARD_B, CARD_EMPTY};
 use reference::{check, read_card, Book};
 use std::fs;
 use std::io::Write;
+use std::path::PathBuf;
 use std::process::Command;
 use std::thread;
 use std::time::{Duration, SystemTime};
@@ -43,8 +45,12 @@ fn put(folder: &Folder, name: &str, what: At) {
 
 /// Runs judge in a folder, which it must leave as it was, and gives what it wrote.
 fn judged_in(folder: &Folder) -> String {
+    judged_by(&mut Command::new(judge()), folder)
+}
+
+fn judged_by(command: &mut Command, folder: &Folder) -> String {
     let before = contents(folder);
-    let output = run(Command::new(judge()).current_dir(folder.path()));
+    let output = run(command.current_dir(folder.path()));
     assert_eq!(contents(folder), before, "judge changed a file");
     assert!(
         output.status.success(),
@@ -169,6 +175,72 @@ fn the_card_is_judged_first() {
         .collect();
     let line = judged_files(&card_of_rows(&rows_65), &accepted_by_b());
     assert_eq!(line, "refused 15\n");
+}
+
+/// The message is not even opened before the card is judged: in its place stands a pipe without a
+/// writer, whose opening would never end.
+#[test]
+fn the_message_is_opened_behind_the_card() {
+    let longer = [&CARD_B[..], &[0]].concat();
+    let above = vec![0; 65_536];
+    let cards = [
+        (At::File(&longer), "refused 15\n"),
+        (At::File(&[]), "refused 15\n"),
+        (At::Nothing, "unreadable\n"),
+        (At::Folder, "unreadable\n"),
+        (At::File(&above), "unreadable\n"),
+    ];
+    for (card, line) in cards {
+        let folder = Folder::new();
+        put(&folder, CARD, card);
+        run_well(Command::new("mkfifo").arg(folder.path().join(MESSAGE)));
+        let mut command = Command::new(judge());
+        let limit = Duration::from_secs(10);
+        assert_eq!(run_within(limit, command.current_dir(folder.path())), line);
+    }
+}
+
+/// Builds what makes reads fail, to be loaded in front of the C library.
+fn failing_read(folder: &Folder) -> PathBuf {
+    let library = folder.path().join("failing_read.so");
+    run_well(
+        Command::new("cc")
+            .args(["-std=c11", "-shared", "-fPIC"])
+            .args(["-Wall", "-Wextra", "-Wpedantic", "-Werror"])
+            .arg(repository_file("tests/compare/c/failing_read.c"))
+            .arg("-o")
+            .arg(&library),
+    );
+    library
+}
+
+/// A read that fails makes a file unreadable, though the bytes read before are the whole of it and
+/// would be judged. It takes a judge that calls the C library's `read`.
+#[test]
+fn a_read_that_fails_behind_one_that_passed() {
+    let built = Folder::new();
+    let library = failing_read(&built);
+    let judged_failing = |card: &[u8], message: &[u8], name: &str| {
+        let folder = Folder::new();
+        folder.write(CARD, card);
+        folder.write(MESSAGE, message);
+        let mut command = Command::new(judge());
+        command
+            .env("LD_PRELOAD", &library)
+            .env("FAILING_READ", name);
+        judged_by(&mut command, &folder)
+    };
+    let message = accepted_by_b();
+    let line = judged_failing(&CARD_B, &message, "another file");
+    assert_eq!(line, "accepted row 0 counter 11\n");
+    for name in [CARD, MESSAGE] {
+        let line = judged_failing(&CARD_B, &message, name);
+        assert_eq!(line, "unreadable\n", "{name}");
+    }
+    let line = judged_failing(&CARD_B[1..], &message, CARD);
+    assert_eq!(line, "unreadable\n", "a card that is refused");
+    let line = judged_failing(&CARD_B, &message[1..], MESSAGE);
+    assert_eq!(line, "unreadable\n", "a message that is refused");
 }
 
 #[test]
