@@ -1,10 +1,7 @@
 pub mod Little
-mod Loops
+pub mod Loops
 pub mod Shape
 pub mod Says
-mod Judging
-mod Writes
-mod Loads
-pub mod Trips
-pub mod ByRow
-pub mod Computed
+pub mod Judging
+pub mod Writes
+pub mod Loads

@@ -5,4 +5,3 @@ pub mod Reader
 pub mod Reading
 pub mod Writing
 pub mod Laws
-pub mod Examples

@@ -17,8 +17,8 @@ use Rattle.key_book.specs.Book.{allBelow, sized, ascending, keySizes, sound, pl
 use Rattle.key_book.proofs.Computed.{example-10}
 use Rattle.delayed_auth.specs.Check.{judgedRow, judgedSaid, judgedSound, checkOf, verdictNumber}
 use Rattle.book_card.specs.Reading.{readNumber}
-use Rattle.book_card.specs.Examples.{bookB}
-use Rattle.book_card.proofs.Computed.{example-1, example-2}
+use Rattle.card_laws.specs.Examples.{bookB}
+use Rattle.card_laws.proofs.Computed.{example-1, example-2}
 use Rattle.demands.specs.Bench.{numberOnB, wrongMac, BenchTable}
 
 b-sound : sound bookB ≡ true

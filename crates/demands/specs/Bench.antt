@@ -12,7 +12,7 @@ use Rattle.key_book.specs.Book.{sound}
 use Rattle.key_book.specs.Examples.{oneRow}
 use Rattle.delayed_auth.specs.Check.{checkOf, verdictNumber}
 use Rattle.book_card.specs.declared.ReadAnswer.the-variants.{Rows}
-use Rattle.book_card.specs.Examples.{bookB, cardB, emptyRoom, emptyCard}
+use Rattle.card_laws.specs.Examples.{bookB, cardB, emptyRoom, emptyCard}
 use Rattle.book_card.specs.Card.{cardOf}
 use Rattle.book_card.specs.Reading.{readOf, readNumber}
 use Rattle.book_card.specs.Writing.{rowsOf}

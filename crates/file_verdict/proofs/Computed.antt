@@ -19,7 +19,7 @@ use Rattle.delayed_auth.specs.Check.{sameBytes, judgedRow, judgedSaid, judgedSo
 use Rattle.book_card.specs.Numbers.{value, numberAt}
 use Rattle.book_card.specs.Reader.{frontOf, frontFrom, rowsInFront, readCard}
 use Rattle.book_card.specs.Reading.{slotOf, slotsOf, laid, loaded, readOf, rowsIn, readBook}
-use Rattle.book_card.specs.Examples.{cardB}
+use Rattle.card_laws.specs.Examples.{cardB}
 use Rattle.verdict_line.specs.declared.Line.the-variants.{Accepted, Refused}
 use Rattle.file_verdict.specs.Files.{readable, loadedOf, bookLoaded, messageLine, lineFor}
 use Rattle.file_verdict.specs.Example9.{messageWith, Example9}

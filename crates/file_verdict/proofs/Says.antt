@@ -20,7 +20,7 @@ use Rattle.book_card.specs.declared.ReadAnswer.the-variants.{Refused as ReadRef
 use Rattle.book_card.specs.Reader.{readCard}
 use Rattle.book_card.specs.Reading.{readOf, rowsIn, readBy, readBook, loaded}
 use Rattle.book_card.proofs.Says.{card-says, malformed-says}
-use Rattle.book_card.proofs.Trips.{largest-card}
+use Rattle.card_laws.proofs.Trips.{largest-card}
 use Rattle.verdict_line.specs.declared.Line.{Line}
 use Rattle.verdict_line.specs.declared.Line.the-variants.{Refused, Unreadable}
 use Rattle.file_verdict.specs.declared.Loaded.the-variants.{Stopped, Rows}

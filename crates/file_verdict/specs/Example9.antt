@@ -7,7 +7,7 @@ use mathlib.Core.Option.{Option, none, some}
 use lib.ListN.{replicate}
 use Rattle.refusal.specs.declared.Refusal.the-variants.{Replay, WrongMac, MalformedCard}
 use Rattle.dhcp_message.specs.Bench.{messageOf, fullAuth}
-use Rattle.book_card.specs.Examples.{cardB}
+use Rattle.card_laws.specs.Examples.{cardB}
 use Rattle.verdict_line.specs.declared.Line.the-variants.{Accepted, Refused, Unreadable}
 use Rattle.file_verdict.specs.Files.{readable, lineFor}
 

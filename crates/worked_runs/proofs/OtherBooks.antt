@@ -10,7 +10,7 @@ use Rattle.dhcp_message.specs.Said.{named}
 use Rattle.key_book.specs.Book.{Sound, sound, sized, ascending, keySizes, allBelow, rowOf, keyOf}
 use Rattle.key_book.specs.Laws.{SameKey}
 use Rattle.key_book.proofs.Says.{sound-says}
-use Rattle.book_card.specs.Laws.{SameRows}
+use Rattle.card_laws.specs.Laws.{SameRows}
 use Rattle.demands.specs.Accepts.{Names}
 use Rattle.demands.specs.Dependence.{SameSecrets, SameInUse}
 use Rattle.worked_runs.specs.Crossed.{idA, book, changedB, authA, relayInfo, plain}

@@ -7,7 +7,7 @@ use mathlib.Core.List.{[], _∷_}
 use Rattle.key_book.specs.Book.{Book, bookOf}
 use Rattle.delayed_auth.specs.Check.{checkOf, verdictNumber}
 use Rattle.delayed_auth.specs.Seal.{sealOf, outcomeNumber}
-use Rattle.book_card.specs.Examples.{bookB, cardB}
+use Rattle.card_laws.specs.Examples.{bookB, cardB}
 use Rattle.book_card.specs.Reading.{readOf, readNumber}
 use Rattle.book_card.specs.Writing.{writeOf, writeNumber}
 use Rattle.demands.specs.Bench.{numberOnB, wrongMac}

@@ -1,10 +1,10 @@
 -- Books that differ only in what no answer depends on (document 01, 'The key book'): so what demands/specs/Dependence.antt, key_book/specs/Laws.antt
--- and book_card/specs/Laws.antt say of two books speaks of books that differ. The one proof is proofs/OtherBooks.antt.
+-- and card_laws/specs/Laws.antt say of two books speaks of books that differ. The one proof is proofs/OtherBooks.antt.
 use Prim.Native.Nat.{ℕ}
 use mathlib.Core.List.{[], _∷_, _++_}
 use lib.ListN.{replicate}
 use Rattle.key_book.specs.Book.{Book, Sound, bookOf}
-use Rattle.book_card.specs.Laws.{SameRows}
+use Rattle.card_laws.specs.Laws.{SameRows}
 use Rattle.demands.specs.Dependence.{SameForCheck, SameForSeal, SameInUse}
 use Rattle.worked_runs.specs.Crossed.{idA, idB, book, changedB, authA, relayInfo, plain}
 

@@ -1,12 +1,12 @@
 -- specs/Examples.antt, computed.
 use mathlib.Core.Path.{refl}
 use Rattle.key_book.specs.Book.{allBelow, sized, ascending, keySizes, sound, keyFits, keyIn}
 use Rattle.book_card.specs.Numbers.{le, value, numberAt}
 use Rattle.book_card.specs.Card.{recordOf, rowRecord, close, rowRecords, cardOf}
 use Rattle.book_card.specs.Reader.{frontOf, frontFrom, rowsInFront, readCard}
 use Rattle.book_card.specs.Reading.{slotOf, slotsOf, laid, loaded, readOf, rowsIn, readBook}
 use Rattle.book_card.specs.Writing.{rowsFrom, rowsOf, writeOf, written}
-use Rattle.book_card.specs.Examples.{Example1, OrderedBytes, FrontExample, Example2}
+use Rattle.card_laws.specs.Examples.{Example1, OrderedBytes, FrontExample, Example2}
 
 pub example-1 : Example1
 unfolding allBelow sized ascending keySizes sound keyFits keyIn le value numberAt recordOf rowRecord close rowRecords cardOf

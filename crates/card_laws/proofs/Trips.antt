@@ -16,20 +16,20 @@ use Rattle.key_book.specs.Limits.{rowsMost, slotSize}
 use Rattle.key_book.specs.Book.{Book, Lent, Sized, sized, Sound, keyOf}
 use Rattle.key_book.specs.Laws.{Within}
 use Rattle.key_book.proofs.Says.{sized-says, sound-says, rows-within, key-says, key-is, key-depends}
 use Rattle.book_card.specs.Numbers.{le, Bytes}
 use Rattle.book_card.specs.Card.{lengthSize, kindSize, idSize, counterSize, countSize, rowKind, closeKind, Row, recordOf, rowRecord, rowRecords, close, cardOf, RowFits, noRow, InOrder}
 use Rattle.book_card.specs.Reader.{keyAt, closeSize, readCard}
 use Rattle.book_card.specs.Reading.{slotOf, slotsOf, laid, loaded, readAs, readOf, rowsIn, readBy, readBook}
 use Rattle.book_card.specs.Writing.{rowAt, rowsFrom, rowsOf, writeOf, written, writtenBy}
-use Rattle.book_card.specs.Laws.{fullRows, LargestCard, WriteThenRead, ReadThenWrite, SameRows, WriteDepends}
+use Rattle.card_laws.specs.Laws.{fullRows, LargestCard, WriteThenRead, ReadThenWrite, SameRows, WriteDepends}
 use Rattle.book_card.specs.declared.ReadAnswer.the-variants.{Refused, Rows}
 use Rattle.book_card.specs.declared.WriteAnswer.{WriteAnswer}
 use Rattle.book_card.specs.declared.WriteAnswer.the-variants.{Refused as NotWritten, Size}
 use Rattle.book_card.proofs.Little.{bytes-append, bytes-le, bytes-take, bytes-drop}
 use Rattle.book_card.proofs.Shape.{row-size, close-size}
 use Rattle.book_card.proofs.Says.{After, in-order-after, after-in-order, card-says}
 use Rattle.book_card.proofs.Writes.{rows-length}
 use Rattle.book_card.proofs.Loads.{Fit, slot-length, slots-length}
 
 -- ---- the largest card
 

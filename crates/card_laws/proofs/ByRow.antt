@@ -9,13 +9,13 @@ use lib.ListN.{length, getD, drop, replicate, length-map, List·getD-append, get
 use lib.Seq.{getD-drop, getD-append-add}
 use Rattle.key_book.specs.Limits.{slotSize}
 use Rattle.key_book.specs.Book.{Book, Sized}
 use Rattle.book_card.specs.Card.{Row, cardOf, noRow, InOrder}
 use Rattle.book_card.specs.Reader.{readCard}
 use Rattle.book_card.specs.Reading.{slotOf, slotsOf, laid, loaded}
-use Rattle.book_card.specs.Laws.{RowSet, LeftFrom, RowsLeft, RowsRead, ReadSays}
+use Rattle.card_laws.specs.Laws.{RowSet, LeftFrom, RowsLeft, RowsRead, ReadSays}
 use Rattle.book_card.proofs.Says.{card-says}
 use Rattle.book_card.proofs.Loads.{Fit, slot-length, slots-length, slots-at}
-use Rattle.book_card.proofs.Trips.{card-bytes, laid-length, laid-at, given, gives, gives-book}
+use Rattle.card_laws.proofs.Trips.{card-bytes, laid-length, laid-at, given, gives, gives-book}
 
 -- an element past those laid over a list is the old one
 laid-left : (xs old : List ℕ) (n : ℕ) → length xs ≡ n → length xs ≤ length old → LeftFrom n old (laid xs old)
