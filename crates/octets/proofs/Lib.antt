@@ -1,0 +1,6 @@
+pub mod Written
+pub mod Starts
+pub mod Elements
+pub mod LowFirst
+pub mod HighFirst
+pub mod Loops
