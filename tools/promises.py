@@ -9,12 +9,13 @@ Contracts (src/**/*.rt)
  - No function is foreign: the contract of a function without a body is assumed.
  - Every clause is `⌜ P ⌝`, behind `λ r.` in an `ensures`, and holds no comment. An `ensures` speaks of the result or of what is lent afterwards,
    and no part of it is trivially true (`x ≡ x`, `A → A`, `(h : x < x) → ..`, `Unit`, ..). This holds of private functions and of programs too.
- - A public function of a library (`pub`, or visible to C; also in an `impl`, also in a deeper file) has no `requires`. Equations fix its result
+ - A public function of a library (`pub`, or visible to C; also in an `impl`, also in a deeper file) has no `requires`, but for those of SERVING, which
+   proved code alone calls: none of these is visible to C. Equations fix its result
    (`r ≡ ..`, or each field of it; of a reference what it refers to and where, `now r ≡ ..` and `r .ptr ≡ ..`) and what is behind each `&mut` afterwards
    (`now (p .exit) ≡ ..`, perhaps as an argument of what builds a record of its arguments). Such an equation stands under no premise. Its right side
    names a definition of specs/ and, unless all is lent for writing, a parameter; it names neither the result nor anything `.exit`. Every word of it
-   is known. Every clause names a definition of specs/; every parameter stands in an equation; no parameter hides a name, and behind `λ r.` no name
-   is bound.
+   is known. Every clause names a definition of specs/; every parameter stands in an equation; no parameter hides a name. Behind `λ r.` no name
+   is bound but by a `let x = .. in` at the clause's front, and that name is nobody else's.
 Names (src/ and specs/)
  - The names of LIBRARY come from their library path alone, the names of LENT from nowhere; neither is given another meaning in specs/.
    Contracts take nothing else from a library, definitions no other operator; specs/ has no operator of its own.
@@ -108,6 +109,9 @@ DATA = [
     ("book_card", "Row"),
     ("book_card", "FrontRows"),
 ]
+
+# Crates whose functions serve the other crates and are no entries: they may ask something of their callers, since every caller is proved to give it.
+SERVING = ("octets",)
 
 # Proof files of examples and of the RFCs' vectors: everything that they prove is a listed statement.
 VECTOR_FILES = ("Vectors", "Computed", "Examples")
@@ -239,13 +243,20 @@ def is_proposition(words):
 # ---- contracts
 
 
+def without_let(words):
+    """A `let x = v in t` with v put in for x, and the names that were so bound, outermost first."""
+    words = bare(words)
+    if words[:1] != ["let"] or words[2:3] != ["="]:
+        return words, []
+    end = next((place for place, word in enumerate(words) if word == "in"), len(words))
+    value = ["(", *words[3:end], ")"]
+    body, names = without_let([w for word in words[end + 1 :] for w in (value if word == words[1] else [word])])
+    return body, [words[1], *names]
+
+
 def parts_of(words):
     """The parts of a product, with a `let` put in for its name. An implication is one part."""
-    words = bare(words)
-    if words[:1] == ["let"] and words[2:3] == ["="]:
-        end = next((place for place, word in enumerate(words) if word == "in"), len(words))
-        value = ["(", *words[3:end], ")"]
-        return parts_of([w for word in words[end + 1 :] for w in (value if word == words[1] else [word])])
+    words, _ = without_let(words)
     if outside(words, ("→",)) or not outside(words, ("×",)):
         return [words]
     return [part for piece in split_words(words, ("×",)) for part in parts_of(piece)]
@@ -253,10 +264,12 @@ def parts_of(words):
 
 @dataclass
 class Reading:
-    """An `ensures` taken apart: the name of the result, the words of what is said, and its equations that stand under no premise."""
+    """An `ensures` taken apart: the name of the result, the words of what is said, with each `let` at its front put in, the names of these, and the
+    equations that stand under no premise."""
 
     result: str
     words: list
+    lets: list
     equations: list
 
     @classmethod
@@ -265,10 +278,10 @@ class Reading:
         words = antt_tokens(clause.text)
         if words[:1] + words[2:4] + words[-1:] != ["λ", ".", "⌜", "⌝"] or words.count("⌜") + words.count("⌝") != 2:
             return None
-        said = words[4:-1]
+        said, lets = without_let(words[4:-1])
         plain = known | TIGHT | {words[1], "now", "(", ")", "≡"}
         sides = [split_words(part, ("≡",)) for part in parts_of(said) if all(word in plain or re.match(r"\.|\d", word) for word in part)]
-        return cls(words[1], said, [pair for pair in sides if len(pair) == 2])
+        return cls(words[1], said, lets, [pair for pair in sides if len(pair) == 2])
 
 
 def contract_faults(crates):
@@ -283,7 +296,7 @@ def contract_faults(crates):
                     for fault in clause_faults(clause, {*imported}):
                         yield f"{place}, line {clause.line}: {fault}"
                 if function.public and path != "src/main.rt":
-                    for fault in public_faults(function, imported, source.structs):
+                    for fault in public_faults(function, imported, source.structs, crate.name in SERVING):
                         yield f"{place} {fault}"
 
 
@@ -322,12 +335,14 @@ def imports(crate, crates, source):
     return found
 
 
-def public_faults(function, imported, structs):
+def public_faults(function, imported, structs, serving):
     cited = {name for name, source in imported.items() if source}
     names = [parameter.name for parameter in function.parameters]
     given = {parameter.name for parameter in function.parameters if not parameter.lent_mutably}
-    if function.all("requires"):
+    if function.all("requires") and not serving:
         yield "has a `requires`"
+    if function.for_c and serving:
+        yield "is visible to C, in a crate that serves the others"
     if not function.all("ensures"):
         yield "has no `ensures`"
     for clause in function.clauses:
@@ -340,7 +355,8 @@ def public_faults(function, imported, structs):
         for word in sorted({*BINDERS} & {*reading.words}):
             yield f"has an `ensures` that binds a name by `{word}`, which may hide the result or a parameter"
     results = {reading.result for reading in readings}
-    for name in ({*names} | results) & {*imported, *LENT} | results & {*names}:
+    lets = {name for reading in readings for name in reading.lets}
+    for name in ({*names} | results | lets) & {*imported, *LENT} | (results | lets) & {*names} | results & lets:
         yield f"hides the name `{name}`"
     equations = [
         (reading.result, left, right)

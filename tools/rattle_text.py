@@ -104,7 +104,8 @@ class Parameter:
 class Function:
     name: str
     line: int
-    public: bool  # pub, of a trait, or visible to C
+    public: bool  # pub to other crates, of a trait, or visible to C
+    for_c: bool  # `extern`: visible to C
     owner: str  # the type of the `impl` around it, or ""
     parameters: list
     result: str  # its type, or ""
@@ -143,7 +144,8 @@ class RattleSource:
             if token.group() == "fn" and number + 1 < len(tokens) and re.match(r"\w", tokens[number + 1].group()):
                 before = self.marks_before(tokens, number)
                 owner, of_trait = next(((name, trait) for name, trait, start, end in impls if start < token.start() < end), ("", False))
-                yield self.function(tokens[number + 1], of_trait or "pub" in before or "extern" in before, owner)
+                outside_too = "pub" in before and not {"crate", "super", "self"} & {*before}
+                yield self.function(tokens[number + 1], of_trait or outside_too or "extern" in before, "extern" in before, owner)
 
     def impls(self):
         """Each `impl`: its type, whether it is one of a trait, whose functions have no `pub` of their own, and where it begins and ends."""
@@ -159,7 +161,7 @@ class RattleSource:
             words.append(tokens[number].group())
         return words
 
-    def function(self, name, public, owner):
+    def function(self, name, public, for_c, owner):
         at = name.end()
         if self.next_mark(at) == "<":
             at = bracket_end(self.text, self.text.index("<", at))
@@ -172,7 +174,7 @@ class RattleSource:
             at = self.result_end(begin)
             result = self.text[begin:at].strip()
         clauses, at = self.clauses(at)
-        return Function(name.group(), line_of(self.text, name.start()), public, owner, parameters, result, clauses, self.next_mark(at) != "{")
+        return Function(name.group(), line_of(self.text, name.start()), public, for_c, owner, parameters, result, clauses, self.next_mark(at) != "{")
 
     def next_mark(self, at):
         return self.text[at:].lstrip()[:1]

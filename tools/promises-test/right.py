@@ -104,6 +104,34 @@ pub fn scale(x: u8) -> u8
     x
 }
 """,
+    "crates/octets/src/lib.rt": """\
+// What serves the others may ask something of them.
+ghost use mathlib.Core.Path.{_≡_};
+ghost use Prim.Native.Nat.{_≤_};
+ghost use Rattle.octets.specs.Cut.{cutOf};
+
+pub fn cut(x: u8) -> u8
+    requires { ⌜ x ≤ 100 ⌝ }
+    ensures { λ r. ⌜ (let y = cutOf x in r ≡ y) ⌝ }
+{
+    x
+}
+
+pub(crate) fn small(x: u8) -> u8
+    requires { ⌜ x ≤ 100 ⌝ }
+    ensures { λ r. ⌜ r ≤ x ⌝ }
+{
+    x
+}
+""",
+    "crates/octets/specs/Lib.antt": "pub mod Cut\n",
+    "crates/octets/specs/Cut.antt": """\
+-- A number as it is.
+use Prim.Native.Nat.{ℕ}
+
+unfoldable pub cutOf : ℕ → ℕ
+cutOf x = x
+""",
     "crates/meter/specs/Lib.antt": "pub mod Reading\npub mod Laws\npub mod Examples\n",
     "crates/meter/specs/Reading.antt": """\
 -- What a meter reads.
