@@ -304,7 +304,8 @@ module _ (c : ℕ) where
   place-once (pad ∷ ts) at d z = place-once ts (at + 1) d z ∙ omega arith
   place-once (opt e b ∷ ts) at d z = by (eqb e c) (rest-count (eqb e c) (count c ts) z) (place-once ts (at + (2 + length b)) d)
     where
-      by : (x : Bool) → count c ts ≡ cond x 0 1 → (count c ts ≡ 1 → place c (at + (2 + length b)) d ts ≡ at + (2 + length b) + length (encode (tokensBefore c ts)))
+      by : (x : Bool) → count c ts ≡ cond x 0 1
+          → (count c ts ≡ 1 → place c (at + (2 + length b)) d ts ≡ at + (2 + length b) + length (encode (tokensBefore c ts)))
           → place c (at + (2 + length b)) (cond x at d) ts ≡ at + length (encode (cond x [] (opt e b ∷ tokensBefore c ts)))
       by true n ih = place-none ts (at + (2 + length b)) at n ∙ sym (add-zero at)
       by false n ih =
