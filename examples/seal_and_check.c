@@ -1,7 +1,7 @@
 /*
  * Seals a DHCPv4 message and checks it, as a server and a client that share a secret would.
  *
- * Build it with:  cc -std=c11 -Iinclude examples/seal_and_check.c target/staticlib/libc_api.a -o seal_and_check
+ * Build it with:  cc -std=c11 -Iinclude examples/seal_and_check.c target/staticlib/librimemagpie.a -o seal_and_check
  *
  * It exits with 0 if the sealed message is accepted, and refused as a replay when it is shown again.
  */
