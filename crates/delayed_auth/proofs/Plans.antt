@@ -14,7 +14,8 @@ use lib.Seq.{length-take-le}
 use Rattle.refusal.specs.declared.Refusal.{Refusal}
 use Rattle.refusal.specs.declared.Refusal.the-variants.{UnsoundBook, UnknownSecret, CounterSpent}
 use Rattle.hmac_md5.specs.Hmac.{hmac}
-use Rattle.dhcp_message.specs.Bytes.{written, zeros, be32}
+use Rattle.octets.specs.Bytes.{written, zeros}
+use Rattle.dhcp_message.specs.Bytes.{be32}
 use Rattle.dhcp_message.specs.Said.{formOf}
 use Rattle.dhcp_message.specs.Image.{imageOf}
 use Rattle.dhcp_message.specs.Seal.{fields, fieldsPut, macPut, sealedWith, withFields}

@@ -7,7 +7,7 @@ use mathlib.Core.List.{List}
 use Rattle.refusal.specs.Number.{numberOf}
 use Rattle.refusal.specs.declared.Refusal.{Refusal}
 use Rattle.refusal.specs.declared.Refusal.the-variants.{WrongCookie}
-use Rattle.dhcp_message.specs.Bytes.{zeros}
+use Rattle.octets.specs.Bytes.{zeros}
 use Rattle.dhcp_message.specs.Bench.{someMac}
 use Rattle.dhcp_message.specs.Options.{decodeAt}
 use Rattle.dhcp_message.specs.Message.{checkedOf, checkedTokens}

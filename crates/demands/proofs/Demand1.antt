@@ -22,7 +22,7 @@ use Rattle.md5.specs.Entries.{digestMost, noDigest, absorb, feedOf, finishOf, m
 use Rattle.md5.proofs.Promises.{refused-kept}
 use Rattle.hmac_md5.specs.declared.Mac.{Mac}
 use Rattle.hmac_md5.specs.Hmac.{keyMost, hmac, hmacOf}
-use Rattle.dhcp_message.specs.Bytes.{Bytes}
+use Rattle.octets.specs.Bytes.{Bytes}
 use Rattle.dhcp_message.specs.Said.{says, saidOf, named, formOf, formNames}
 use Rattle.dhcp_message.specs.Image.{imageOf}
 use Rattle.dhcp_message.specs.Numbers.{Applies}

@@ -10,7 +10,7 @@ use lib.ListN.{length, getD, take, length-take}
 use lib.Seq.{getD-take, ext-getD}
 use Rattle.hmac_md5.specs.Hmac.{hmac}
 use Rattle.dhcp_message.specs.Layout.{macSize, sealSize}
-use Rattle.dhcp_message.specs.Bytes.{zeros}
+use Rattle.octets.specs.Bytes.{zeros}
 use Rattle.dhcp_message.specs.Said.{Said, refused, says, saidOf, idOf, named, formOf}
 use Rattle.dhcp_message.specs.Image.{imageOf}
 use Rattle.dhcp_message.specs.Seal.{fields, sealedWith, withFields}

@@ -3,7 +3,7 @@ use mathlib.Core.Path.{_≡_, refl, ap, _∙_}
 use mathlib.Core.List.{List}
 use Prim.Native.Nat.{ℕ, _^_, _<_}
 use native.Mathlib.Omega.{arith}
-use Rattle.dhcp_message.specs.Bytes.{Bytes}
+use Rattle.octets.specs.Bytes.{Bytes}
 use Rattle.dhcp_message.specs.Message.{Checked, stopped, passed, checkedOf}
 use Rattle.dhcp_message.specs.Said.{says, saidOf, saidIn, placesOf, authOf, formIn, formOf}
 use Rattle.dhcp_message.specs.declared.Auth.{Auth}

@@ -6,7 +6,7 @@ use mathlib.Core.Option.{some}
 use lib.ListN.{getD}
 use Rattle.hmac_md5.specs.Hmac.{hmac}
 use Rattle.dhcp_message.specs.Layout.{counterAt}
-use Rattle.dhcp_message.specs.Bytes.{written}
+use Rattle.octets.specs.Bytes.{written}
 use Rattle.dhcp_message.specs.Said.{says, saidOf, named, formOf}
 use Rattle.dhcp_message.specs.Image.{imageOf}
 use Rattle.dhcp_message.specs.Seal.{fields}

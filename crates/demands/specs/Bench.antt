@@ -6,7 +6,7 @@ use mathlib.Core.Logic.{_≢_}
 use mathlib.Core.Bool.{true, false}
 use mathlib.Core.List.{List, [], _∷_, _++_}
 use lib.ListN.{length}
-use Rattle.dhcp_message.specs.Bytes.{zeros}
+use Rattle.octets.specs.Bytes.{zeros}
 use Rattle.dhcp_message.specs.Bench.{messageOf, fullAuth, someMac}
 use Rattle.key_book.specs.Book.{sound}
 use Rattle.key_book.specs.Examples.{oneRow}

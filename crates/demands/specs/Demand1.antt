@@ -3,7 +3,7 @@
 -- Nothing is asked of the book; of a message and a card only that their elements are bytes. Its one proof is proofs/Demand1.antt.
 use Prim.Native.Nat.{ℕ, _+_, _<_, _≤_}
 use mathlib.Core.Path.{_≡_}
-use mathlib.Core.Logic.{_↔_, _≢_, _⊎_}
+use mathlib.Core.Logic.{_↔_, _≢_}
 use mathlib.Core.List.{List, []}
 use mathlib.Core.Option.{some}
 use lib.ListN.{length, getD}
@@ -14,7 +14,7 @@ use Rattle.md5.specs.declared.Digest.{Digest}
 use Rattle.md5.specs.Block.{blockSize}
 use Rattle.md5.specs.Entries.{digestMost, noDigest, feedOf, finishOf, md5Of}
 use Rattle.hmac_md5.specs.Hmac.{keyMost, hmac, hmacOf}
-use Rattle.dhcp_message.specs.Bytes.{Bytes}
+use Rattle.octets.specs.Bytes.{Bytes}
 use Rattle.dhcp_message.specs.Said.{says, saidOf, named}
 use Rattle.dhcp_message.specs.Image.{imageOf}
 use Rattle.dhcp_message.specs.Numbers.{Applies}

@@ -6,7 +6,7 @@ use mathlib.Core.Logic.{_≢_}
 use mathlib.Core.List.{List}
 use mathlib.Core.Option.{some}
 use lib.ListN.{getElem?}
-use Rattle.dhcp_message.specs.Bytes.{Bytes}
+use Rattle.octets.specs.Bytes.{Bytes}
 use Rattle.key_book.specs.Book.{Book, Sound}
 use Rattle.delayed_auth.specs.declared.Verdict.the-variants.{Accepted}
 use Rattle.delayed_auth.specs.Seal.{counterMost}

@@ -4,14 +4,15 @@ use Prim.Native.Nat.{ℕ, zero, suc, _≤_}
 use native.Mathlib.Omega.{arith}
 use mathlib.Core.List.{List, [], _∷_, _++_}
 use lib.ListN.{length, take, drop}
-use Rattle.dhcp_message.specs.Bytes.{Bytes, written, zeros}
+use Rattle.octets.specs.Bytes.{Bytes, written, zeros}
 use Rattle.dhcp_message.specs.Options.{Token, pad, opt, encode, Reads, decodeAt}
 use Rattle.dhcp_message.specs.Message.{checkedTokens, checkedOf, Passes27}
 use Rattle.dhcp_message.specs.Said.{saidBy, saidOf, formOf}
 use Rattle.dhcp_message.specs.Image.{headWith, imageOf, coverFits, coverSize}
 use Rattle.dhcp_message.specs.Relay.{RelayChange, added, replaced, removed, Permitted}
 use Rattle.dhcp_message.specs.Seal.{fieldsPut, macPut}
-use Rattle.dhcp_message.specs.Bench.{BenchExamples, upFrom, distinctOf, distinct, LayoutPinned}
+use Rattle.dhcp_message.specs.Bench.{BenchExamples, distinctOf, distinct, LayoutPinned}
+use Rattle.octets.specs.Bytes.{upFrom}
 
 bytes-zeros : (n : ℕ) → Bytes (zeros n)
 bytes-zeros zero = tt

@@ -14,7 +14,8 @@ use borrow.Author.Tests.{ne-eqb, eq-eqb, eqb-true}
 use Rattle.refusal.specs.declared.Refusal.{Refusal}
 use Rattle.refusal.specs.declared.Refusal.the-variants.{OtherAuthentication, RequestForm}
 use Rattle.dhcp_message.specs.Layout.{delayed}
-use Rattle.dhcp_message.specs.Bytes.{starts, be32, be64}
+use Rattle.octets.specs.Bytes.{starts}
+use Rattle.dhcp_message.specs.Bytes.{be32, be64}
 use Rattle.dhcp_message.specs.Options.{Token}
 use Rattle.dhcp_message.specs.Message.{optionOf, offsetOf, Checked, stopped, passed, checkedOf}
 use Rattle.dhcp_message.specs.Said.{Said, says, saidFor, saidBy, placesOf, authOf, formSaid, formIn, formOf}
@@ -24,7 +25,8 @@ use Rattle.dhcp_message.specs.declared.Auth.{Auth}
 use Rattle.dhcp_message.specs.declared.Form.{Form}
 use Rattle.dhcp_message.specs.declared.Form.the-variants.{Refused, Full}
 use Rattle.dhcp_message.specs.declared.Shape.the-variants.{Refused as SRefused, Passed as SPassed}
-use Rattle.dhcp_message.proofs.Lists.{starts-append, at-32, at-64}
+use Rattle.octets.proofs.Starts.{starts-append}
+use Rattle.dhcp_message.proofs.Lists.{at-32, at-64}
 use Rattle.dhcp_message.proofs.Passing.{Passing, passing, option-is, from-option, inside, split-90}
 
 -- ---- what option 90 says, read off a message

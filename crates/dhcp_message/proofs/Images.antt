@@ -11,14 +11,16 @@ use lib.ListN.{length, take, drop, getD, length-append, length-drop, take-append
 use lib.Seq.{length-take-le, take-at, drop-at, take-all, drop-append-add, drop-drop}
 use lib.Dec.{leb, eqb}
 use borrow.Author.Tests.{le-leb, lt-leb, leb-true, not-true, not-false}
-use Rattle.dhcp_message.specs.Bytes.{written, zeros}
+use Rattle.octets.specs.Bytes.{written, zeros}
 use Rattle.dhcp_message.specs.Options.{Token, pad, opt, cut, encode}
 use Rattle.dhcp_message.specs.Message.{count, optionOf, tokensBefore, offsetOf, onlyPads, isLast}
 use Rattle.dhcp_message.specs.Said.{formOf}
 use Rattle.dhcp_message.specs.Image.{without, macZero, headWith, headZero, imageIn, imageOf, coverFits, coverBytes, coverSize, coverLeft}
 use Rattle.dhcp_message.specs.declared.Auth.{Auth}
 use Rattle.dhcp_message.specs.declared.Form.the-variants.{Full}
-use Rattle.dhcp_message.proofs.Lists.{and-true, length-written, written-left, written-body}
+use Rattle.octets.proofs.Written.{length-written, written-left}
+use Rattle.octets.proofs.Starts.{and-true}
+use Rattle.dhcp_message.proofs.Lists.{written-body}
 use Rattle.dhcp_message.proofs.Tokens.{Split, split, encode-append, count-append, count-split, option-none, before-none, without-none, without-append, without-one, count-without, zero-append, zero-none}
 use Rattle.dhcp_message.proofs.Passing.{Passing, whole, header-size, around, front-size, option-is, inside, split-90}
 use Rattle.dhcp_message.proofs.Forms.{Fully, fully, option-length}

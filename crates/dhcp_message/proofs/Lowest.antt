@@ -14,7 +14,7 @@ use Rattle.refusal.specs.declared.Refusal.{Refusal}
 use Rattle.refusal.proofs.Names.{nameOf, named-back, numbers-tell}
 use Rattle.refusal.specs.declared.Refusal.the-variants.{UnsoundBook, MessageSize, WrongCookie, BrokenOptions, NoAuthentication, RepeatedAuthentication, RelayInformation, OtherAuthentication, RequestForm, UnknownSecret, Replay, WrongMac, CounterSpent, TooLong, MalformedCard, NoRoomForCard, NoRoomForRows}
 use Rattle.dhcp_message.specs.Layout.{magicCookie, delayed}
-use Rattle.dhcp_message.specs.Bytes.{Bytes, starts}
+use Rattle.octets.specs.Bytes.{Bytes, starts}
 use Rattle.dhcp_message.specs.Options.{Token, opt, Parsed, cut, parsed, decode, Reads}
 use Rattle.dhcp_message.specs.Message.{count, optionOf, onlyPads, isLast, Checked, stopped, passed, checkedTokens, checkedParsed, checkedOf, Passed}
 use Rattle.dhcp_message.specs.Said.{refused, says, saidFor, saidBy, placesOf, formSaid, formIn, formOf, formNumber}
@@ -22,7 +22,8 @@ use Rattle.dhcp_message.specs.Numbers.{OnlyPads, WhereRead, Has, RelayWr
 use Rattle.dhcp_message.specs.declared.Auth.{Auth}
 use Rattle.dhcp_message.specs.declared.Form.{Form}
 use Rattle.dhcp_message.specs.declared.Form.the-variants.{Refused, Full}
-use Rattle.dhcp_message.proofs.Lists.{starts-true, starts-taken, bytes-drop}
+use Rattle.octets.proofs.Starts.{starts-true, starts-taken}
+use Rattle.octets.proofs.Elements.{bytes-drop}
 use Rattle.dhcp_message.proofs.Decoding.{decode-reads, reads-decode}
 use Rattle.dhcp_message.proofs.Tokens.{Split, split, count-split, option-there, last-there, last-none, pads-true, pads-false}
 use Rattle.dhcp_message.proofs.Passing.{Passing, passing, split-90, option-is}

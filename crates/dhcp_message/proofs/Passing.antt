@@ -11,10 +11,10 @@ use lib.Dec.{ltb, eqb}
 use borrow.Author.Tests.{le-ltb, ne-eqb, eqb-false, ltb-false}
 use Rattle.refusal.specs.declared.Refusal.the-variants.{MessageSize, WrongCookie, NoAuthentication, RepeatedAuthentication, RelayInformation}
 use Rattle.dhcp_message.specs.Layout.{magicCookie}
-use Rattle.dhcp_message.specs.Bytes.{starts}
+use Rattle.octets.specs.Bytes.{starts}
 use Rattle.dhcp_message.specs.Options.{Token, Parsed, cut, parsed, encode, decode}
 use Rattle.dhcp_message.specs.Message.{count, optionOf, tokensBefore, offsetOf, isLast, Checked, stopped, passed, checkedTokens, checkedParsed, checkedOf, Passed, Passes27}
-use Rattle.dhcp_message.proofs.Lists.{starts-append}
+use Rattle.octets.proofs.Starts.{starts-append}
 use Rattle.dhcp_message.proofs.Decoding.{Codes, decode-encode, encode-decode}
 use Rattle.dhcp_message.proofs.Tokens.{once, Split, split, encode-append, option-there, before-there}
 

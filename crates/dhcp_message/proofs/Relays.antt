@@ -8,15 +8,16 @@ use mathlib.Core.Bool.{true}
 use mathlib.Core.List.{List, [], _∷_, _++_, append-assoc}
 use lib.ListN.{length, take, drop, length-append, length-drop}
 use Rattle.dhcp_message.specs.Layout.{magicCookie}
-use Rattle.dhcp_message.specs.Bytes.{Bytes, written, zeros, starts}
+use Rattle.octets.specs.Bytes.{Bytes, written, zeros, starts}
 use Rattle.dhcp_message.specs.Options.{Token, pad, opt, Parsed, encode, Reads}
 use Rattle.dhcp_message.specs.Message.{count, optionOf, isLast, authIn, authOptionOf, Passes27}
 use Rattle.dhcp_message.specs.Said.{saidBy, saidIn, saidOf, idOf, named}
 use Rattle.dhcp_message.specs.Image.{without, macZero, headWith, imageIn, imageOf}
 use Rattle.dhcp_message.specs.Relay.{RelayChange, kept, added, replaced, removed, Permitted, Relayed, unchanged, changed, Kept, RelayKeeps}
 use Rattle.dhcp_message.specs.Relay.{AnyHeader, WhereFits, RelayMay}
-use Rattle.dhcp_message.proofs.Lists.{length-written, written-over, written-apart, drop-written, bytes-append, bytes-left, bytes-right, bytes-written}
-use Rattle.dhcp_message.proofs.Lists.{bytes-drop}
+use Rattle.octets.proofs.Written.{length-written, written-over, written-apart, drop-written}
+use Rattle.octets.proofs.Elements.{bytes-append, bytes-left, bytes-right, bytes-written}
+use Rattle.octets.proofs.Elements.{bytes-drop}
 use Rattle.dhcp_message.proofs.Decoding.{Codes, decode-reads, reads-decode}
 use Rattle.dhcp_message.proofs.Tokens.{encode-append, nil-right, count-append, count-split, last-there, last-none, without-append, without-one, count-without, option-without}
 use Rattle.dhcp_message.proofs.Passing.{Passing, passing, checks, passing-27, Tokens, tokens-of, take-built, passing-built, header-size, header-magic, codes, whole}

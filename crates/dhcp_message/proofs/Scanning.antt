@@ -14,7 +14,7 @@ use lib.Dec.{leb, ltb, eqb}
 use borrow.Author.Tests.{le-leb, lt-leb, ne-eqb, eq-eqb, leb-true, lt-ltb, le-ltb, eqb-true, eqb-false, ltb-true, ltb-false}
 use Rattle.refusal.specs.declared.Refusal.the-variants.{MessageSize, WrongCookie, BrokenOptions, NoAuthentication, RepeatedAuthentication, RelayInformation}
 use Rattle.dhcp_message.specs.Layout.{magicCookie}
-use Rattle.dhcp_message.specs.Bytes.{starts}
+use Rattle.octets.specs.Bytes.{starts}
 use Rattle.dhcp_message.specs.Options.{Token, pad, opt, Parsed, cut, parsed, encode, body, option, code, withToken, step, decode}
 use Rattle.dhcp_message.specs.Message.{count, optionOf, tokensBefore, onlyPads, isLast, stopped, passed, checkedTokens, checkedParsed, checkedOf}
 use Rattle.dhcp_message.specs.Said.{placesOf}

@@ -13,7 +13,8 @@ use lib.Dec.{eqb}
 use borrow.Author.Tests.{eq-eqb, ne-eqb}
 use Rattle.refusal.specs.declared.Refusal.{Refusal}
 use Rattle.dhcp_message.specs.Layout.{delayed}
-use Rattle.dhcp_message.specs.Bytes.{Bytes, written, zeros, starts, be32, be64, bytes32, bytes64}
+use Rattle.octets.specs.Bytes.{Bytes, written, zeros, starts}
+use Rattle.dhcp_message.specs.Bytes.{be32, be64, bytes32, bytes64}
 use Rattle.dhcp_message.specs.Options.{Token, pad, opt, Parsed, encode}
 use Rattle.dhcp_message.specs.Message.{count, optionOf, tokensBefore, offsetOf, onlyPads, isLast, Checked, stopped, passed, checkedOf}
 use Rattle.dhcp_message.specs.Said.{Said, refused, says, saidBy, saidIn, saidOf, idOf, named, placesOf, authOf, formSaid, formIn, formOf, formSays, formNames, FormSays}
@@ -23,7 +24,10 @@ use Rattle.dhcp_message.specs.declared.Places.{Places}
 use Rattle.dhcp_message.specs.declared.Auth.{Auth}
 use Rattle.dhcp_message.specs.declared.Form.{Form}
 use Rattle.dhcp_message.specs.declared.Form.the-variants.{Refused, Full}
-use Rattle.dhcp_message.proofs.Lists.{length-written, written-over, written-join, written-part, written-same, drop-written, written-body, starts-append, at-32, at-64, below-32, below-64, read-32, read-64, bytes-append, bytes-left, bytes-drop, bytes-written}
+use Rattle.octets.proofs.Written.{length-written, written-over, written-join, written-part, written-same, drop-written}
+use Rattle.octets.proofs.Starts.{starts-append}
+use Rattle.octets.proofs.Elements.{bytes-append, bytes-left, bytes-drop, bytes-written}
+use Rattle.dhcp_message.proofs.Lists.{written-body, at-32, at-64, below-32, below-64, read-32, read-64}
 use Rattle.dhcp_message.proofs.Decoding.{Codes}
 use Rattle.dhcp_message.proofs.Tokens.{Split, encode-append, option-there, without-append, zero-append}
 use Rattle.dhcp_message.proofs.Passing.{Passing, passing, checks, passing-27, passing-built, take-built, header-size, header-magic, codes, around, front-size, option-is, from-option, split-90}

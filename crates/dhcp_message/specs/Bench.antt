@@ -1,11 +1,11 @@
 -- Bench examples 3 to 7 of document 01, of the definitions: from example 4 on a message is 236 zeros, the cookie and the named options. Then a
 -- message whose bytes differ, with all that is read from it and written over it as bytes, so that every offset, size and code shows.
-use Prim.Native.Nat.{ℕ, zero, suc, _+_}
+use Prim.Native.Nat.{ℕ, _+_}
 use mathlib.Core.Path.{_≡_}
 use mathlib.Core.Logic.{_≢_}
 use mathlib.Core.List.{List, [], _∷_, _++_}
 use Rattle.refusal.specs.declared.Refusal.the-variants.{MessageSize, BrokenOptions, NoAuthentication, RelayInformation, OtherAuthentication, RequestForm}
-use Rattle.dhcp_message.specs.Bytes.{Bytes, zeros}
+use Rattle.octets.specs.Bytes.{Bytes, zeros, upFrom}
 use Rattle.dhcp_message.specs.Layout.{cookieAt, magicCookie}
 use Rattle.dhcp_message.specs.Said.{refused, says, saidOf, formOf, formNumber}
 use Rattle.dhcp_message.specs.Image.{imageOf, coverSize}
@@ -35,11 +35,6 @@ pub record BenchExamples : Type 0 where
   pub example-7-protocol : saidOf (messageOf (fullAuth 0 11 7 someMac ++ (255 ∷ []))) ≡ refused OtherAuthentication
 
 -- ---- a message whose bytes differ
-
--- so many bytes, each one above the last
-abbrev pub upFrom : ℕ → ℕ → List ℕ
-upFrom first zero = []
-upFrom first (suc count) = first ∷ upFrom (first + 1) count
 
 -- a header whose bytes are 1 to 236 but for hops (byte 3) and giaddr (bytes 24 to 27), the cookie, and these options
 abbrev pub headedBy : ℕ → List ℕ → List ℕ → List ℕ

@@ -1,27 +1,7 @@
--- Lists of bytes: what a byte is, bytes written over a list, a list's first bytes, and numbers in network order (big-endian).
-use Prim.Native.Nat.{ℕ, _+_, _*_, _/_, _%_, _<_}
-use mathlib.Core.Bool.{Bool, true, false, _&&_}
+-- Numbers in network order (big-endian).
+use Prim.Native.Nat.{ℕ, _+_, _*_, _/_, _%_}
 use mathlib.Core.List.{List, [], _∷_, _++_}
-use lib.ListN.{length, take, drop, getD, replicate}
-use lib.Dec.{eqb}
-
--- every element is a byte
-abbrev pub Bytes : List ℕ → Type 0
-Bytes [] = Unit {0}
-Bytes (x ∷ xs) = (x < 256) × Bytes xs
-
--- a list with new bytes from an offset on, as many as there are; the others as they stood
-unfoldable pub written : ℕ → List ℕ → List ℕ → List ℕ
-written at new old = take at old ++ (new ++ drop (at + length new) old)
-
-abbrev pub zeros : ℕ → List ℕ
-zeros n = replicate n 0
-
--- whether the second list starts with the first
-abbrev pub starts : List ℕ → List ℕ → Bool
-starts [] ys = true
-starts (x ∷ xs) [] = false
-starts (x ∷ xs) (y ∷ ys) = eqb y x && starts xs ys
+use lib.ListN.{getD}
 
 -- the number that stands at an offset, in two, four and eight bytes
 abbrev pub be16 : List ℕ → ℕ → ℕ

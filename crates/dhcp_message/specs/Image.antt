@@ -7,7 +7,7 @@ use mathlib.Core.List.{List, [], _∷_, _++_}
 use lib.ListN.{length, take, drop}
 use lib.Dec.{leb, eqb}
 use Rattle.dhcp_message.specs.Layout.{headerSize, hopsAt, hopsSize, giaddrAt, giaddrSize, endCode, relayCode, authCode, optionHead, macAt, macSize, fullSize}
-use Rattle.dhcp_message.specs.Bytes.{written, zeros}
+use Rattle.octets.specs.Bytes.{written, zeros}
 use Rattle.dhcp_message.specs.Options.{Token, pad, opt, Parsed, cut, parsed, encode, decode}
 use Rattle.dhcp_message.specs.declared.Auth.{Auth}
 

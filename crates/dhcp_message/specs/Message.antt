@@ -8,7 +8,7 @@ use lib.Dec.{ltb, eqb}
 use Rattle.refusal.specs.declared.Refusal.{Refusal}
 use Rattle.refusal.specs.declared.Refusal.the-variants.{MessageSize, WrongCookie, BrokenOptions, NoAuthentication, RepeatedAuthentication, RelayInformation}
 use Rattle.dhcp_message.specs.Layout.{messageLeast, messageMost, headerSize, cookieAt, magicCookie, relayCode, authCode}
-use Rattle.dhcp_message.specs.Bytes.{starts}
+use Rattle.octets.specs.Bytes.{starts}
 use Rattle.dhcp_message.specs.Options.{Token, pad, opt, Parsed, cut, parsed, encode, decode}
 
 -- how many options have code c

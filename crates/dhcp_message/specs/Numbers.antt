@@ -9,7 +9,7 @@ use Rattle.refusal.specs.Number.{numberOf, done}
 use Rattle.refusal.specs.declared.Refusal.{Refusal}
 use Rattle.refusal.specs.declared.Refusal.the-variants.{UnsoundBook, MessageSize, WrongCookie, BrokenOptions, NoAuthentication, RepeatedAuthentication, RelayInformation, OtherAuthentication, RequestForm, UnknownSecret, Replay, WrongMac, CounterSpent, TooLong, MalformedCard, NoRoomForCard, NoRoomForRows}
 use Rattle.dhcp_message.specs.Layout.{messageLeast, messageMost, headerSize, cookieAt, magicCookie, relayCode, authCode, fullLength, requestLength, delayed}
-use Rattle.dhcp_message.specs.Bytes.{Bytes}
+use Rattle.octets.specs.Bytes.{Bytes}
 use Rattle.dhcp_message.specs.Options.{Token, pad, opt, Reads}
 use Rattle.dhcp_message.specs.Message.{count, Passes27}
 use Rattle.dhcp_message.specs.Said.{formOf, formNumber}

@@ -8,7 +8,7 @@ use mathlib.Core.Logic.{_↔_}
 use lib.ListN.{length, take}
 use lib.Dec.{leb, eqb}
 use Rattle.dhcp_message.specs.Layout.{padCode, endCode, bodyMost}
-use Rattle.dhcp_message.specs.Bytes.{Bytes}
+use Rattle.octets.specs.Bytes.{Bytes}
 
 pub data Token : Type 0 where
   pad : Token

@@ -5,7 +5,7 @@ use mathlib.Core.Path.{_≡_}
 use mathlib.Core.List.{List, [], _∷_, _++_}
 use lib.ListN.{length, take, drop}
 use Rattle.dhcp_message.specs.Layout.{messageMost, headerSize, hopsSize, giaddrSize, endCode, relayCode, bodyMost}
-use Rattle.dhcp_message.specs.Bytes.{Bytes}
+use Rattle.octets.specs.Bytes.{Bytes}
 use Rattle.dhcp_message.specs.Options.{Token, opt, encode, Reads}
 use Rattle.dhcp_message.specs.Message.{count, Passes27, authOptionOf}
 use Rattle.dhcp_message.specs.Said.{saidOf, named}

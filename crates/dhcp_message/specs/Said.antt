@@ -11,7 +11,8 @@ use Rattle.refusal.specs.Number.{numberOf, done}
 use Rattle.refusal.specs.declared.Refusal.{Refusal}
 use Rattle.refusal.specs.declared.Refusal.the-variants.{OtherAuthentication, RequestForm}
 use Rattle.dhcp_message.specs.Layout.{relayCode, authCode, lengthAt, methodAt, counterAt, secretIdAt, macAt, macSize, fullLength, requestLength, delayed}
-use Rattle.dhcp_message.specs.Bytes.{starts, be32, be64}
+use Rattle.octets.specs.Bytes.{starts}
+use Rattle.dhcp_message.specs.Bytes.{be32, be64}
 use Rattle.dhcp_message.specs.Options.{Token}
 use Rattle.dhcp_message.specs.Message.{optionOf, offsetOf, Checked, stopped, passed, checkedOf}
 use Rattle.dhcp_message.specs.declared.Places.{Places}

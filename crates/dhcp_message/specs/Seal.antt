@@ -7,7 +7,8 @@ use mathlib.Core.List.{List, _++_}
 use lib.ListN.{length, take, drop}
 use lib.Dec.{eqb}
 use Rattle.dhcp_message.specs.Layout.{messageLeast, messageMost, headerSize, counterAt, macAt, macSize, fieldsSize, sealSize, fullSize}
-use Rattle.dhcp_message.specs.Bytes.{Bytes, written, be32, be64, bytes32, bytes64}
+use Rattle.octets.specs.Bytes.{Bytes, written}
+use Rattle.dhcp_message.specs.Bytes.{be32, be64, bytes32, bytes64}
 use Rattle.dhcp_message.specs.Message.{Passes27}
 use Rattle.dhcp_message.specs.Said.{says, saidOf, formOf}
 use Rattle.dhcp_message.specs.Image.{imageOf, coverSize, coverLeft}

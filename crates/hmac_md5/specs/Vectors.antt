@@ -4,7 +4,7 @@ use Prim.Native.Nat.{ℕ}
 use mathlib.Core.Path.{_≡_}
 use mathlib.Core.List.{List, [], _∷_, _++_}
 use lib.ListN.{replicate}
-use Rattle.md5.specs.Vectors.{upFrom}
+use Rattle.octets.specs.Bytes.{upFrom}
 use Rattle.hmac_md5.specs.Hmac.{hmac}
 
 -- "Hi There"

@@ -1,9 +1,10 @@
 -- The limits of a key book, from both sides: document 01, 'The key book' and bench example 10.
 use mathlib.Core.Path.{_≡_}
 use mathlib.Core.Bool.{true, false}
-use mathlib.Core.List.{List, [], _∷_}
-use Prim.Native.Nat.{ℕ, zero, suc, _*_}
+use mathlib.Core.List.{[], _∷_}
+use Prim.Native.Nat.{ℕ, _*_}
 use lib.ListN.{replicate}
+use Rattle.octets.specs.Bytes.{upFrom}
 use Rattle.key_book.specs.Limits.{slotSize}
 use Rattle.key_book.specs.Book.{Book, bookOf, Lent, sized, sound}
 
@@ -20,11 +21,6 @@ pub record Example10 : Type 0 where
 -- room for so many rows, each with a slot of 64 bytes, none in use
 abbrev pub roomFor : ℕ → Book
 roomFor n = bookOf (replicate n 0) (replicate n 0) (replicate (64 * n) 0) (replicate n 0) (replicate n 0) 0
-
--- so many numbers, from k on
-abbrev pub upFrom : ℕ → ℕ → List ℕ
-upFrom k zero = []
-upFrom k (suc n) = k ∷ upFrom (suc k) n
 
 -- so many rows, all in use, each with a key of one byte
 abbrev pub allUsed : ℕ → Book

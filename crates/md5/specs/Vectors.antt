@@ -1,13 +1,9 @@
 -- The test suite of RFC 1321, appendix A.5, all seven digests. The one proof is in proofs/Vectors.antt.
-use Prim.Native.Nat.{ℕ, zero, suc}
+use Prim.Native.Nat.{ℕ}
 use mathlib.Core.Path.{_≡_}
 use mathlib.Core.List.{List, [], _∷_, _++_}
+use Rattle.octets.specs.Bytes.{upFrom}
 use Rattle.md5.specs.Message.{md5}
-
--- n bytes of which each is one above the one before it, from the byte b
-abbrev pub upFrom : ℕ → ℕ → List ℕ
-upFrom b zero = []
-upFrom b (suc n) = b ∷ upFrom (suc b) n
 
 -- "A" to "Z", "a" to "z", "0" to "9" in ASCII
 abbrev pub upperCase : List ℕ

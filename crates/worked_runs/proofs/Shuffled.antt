@@ -11,7 +11,7 @@ use Rattle.md5.specs.Word.{rotl, auxiliary, wordNo, additive, rotations}
 use Rattle.md5.specs.Block.{stepWith, stepAt, steps, round, compress, wordAt, loadTo, load, blocks}
 use Rattle.md5.specs.Message.{md5, padded, padding, output}
 use Rattle.hmac_md5.specs.Hmac.{masked, hmac}
-use Rattle.dhcp_message.specs.Bytes.{written}
+use Rattle.octets.specs.Bytes.{written}
 use Rattle.dhcp_message.specs.Options.{Token, opt, encode, Reads, decodeAt}
 use Rattle.dhcp_message.specs.Message.{checkedTokens, checkedOf, Passes27}
 use Rattle.dhcp_message.specs.Said.{saidBy, saidOf, named, formOf}

@@ -6,7 +6,7 @@ use mathlib.Core.Path.{_≡_}
 use mathlib.Core.List.{List, [], _∷_, _++_}
 use Rattle.refusal.specs.declared.Refusal.the-variants.{Replay}
 use Rattle.dhcp_message.specs.Layout.{cookieAt, magicCookie}
-use Rattle.dhcp_message.specs.Bytes.{zeros}
+use Rattle.octets.specs.Bytes.{zeros}
 use Rattle.dhcp_message.specs.Image.{headWith}
 use Rattle.dhcp_message.specs.Bench.{messageOf, fullAuth, someMac}
 use Rattle.key_book.specs.Book.{Book, Sound, bookOf}

@@ -3,7 +3,7 @@ use Prim.Native.Nat.{_-_}
 use native.Mathlib.Omega.{arith}
 use borrow.Author.Needs.{needs}
 use denote.Ref.{now}
-use Rattle.dhcp_message.specs.Bytes.{zeros}
+use Rattle.octets.specs.Bytes.{zeros}
 use Rattle.dhcp_message.proofs.Lists.{Writing, writing-start, clear-turn, clear-done}
 use Rattle.dhcp_message.proofs.clear.Statement.{statement}
 use Rattle.dhcp_message.proofs.clear.Tie as tie

@@ -2,7 +2,7 @@
 use mathlib.Core.Path.{refl}
 use mathlib.Core.List.{[], _∷_}
 use denote.Ref.{now}
-use Rattle.dhcp_message.proofs.Lists.{starts-miss, starts-hit, starts-last}
+use Rattle.octets.proofs.Starts.{starts-miss, starts-hit, starts-last}
 use borrow.Author.Needs.{needs}
 use Rattle.dhcp_message.proofs.is_cookie.Statement.{statement}
 use Rattle.dhcp_message.proofs.is_cookie.Tie as tie

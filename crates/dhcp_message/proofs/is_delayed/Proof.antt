@@ -3,7 +3,7 @@ use Prim.Native.Nat.{_+_}
 use native.Mathlib.Omega.{arith}
 use denote.Ref.{now}
 use mathlib.Core.List.{[], _∷_}
-use Rattle.dhcp_message.proofs.Lists.{starts-miss, starts-hit, starts-last}
+use Rattle.octets.proofs.Starts.{starts-miss, starts-hit, starts-last}
 use borrow.Author.Needs.{needs}
 use Rattle.dhcp_message.proofs.is_delayed.Statement.{statement}
 use Rattle.dhcp_message.proofs.is_delayed.Tie as tie

@@ -4,7 +4,7 @@ use native.Mathlib.Numerals.{towards-suc}
 use lib.ListN.{length-set}
 use denote.Ref.{now}
 use Rattle.dhcp_message.specs.Bytes.{bytes32}
-use Rattle.dhcp_message.proofs.Lists.{sets-written}
+use Rattle.octets.proofs.Written.{sets-written}
 use borrow.Author.Needs.{needs}
 use Rattle.dhcp_message.proofs.put32.Statement.{statement}
 use Rattle.dhcp_message.proofs.put32.Tie as tie
