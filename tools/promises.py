@@ -43,6 +43,7 @@ from rattle_text import AnttSource, RattleSource, antt_tokens, arguments, bare, 
 # crate, proof file, theorem, its statement: the one place where the statement is proved.
 THEOREMS = [
     ("refusal", "Names", "numbers-tell", "NumbersTell"),
+    ("octets", "Computed", "octet-examples", "OctetExamples"),
     ("md5", "Promises", "any-cutting", "AnyCutting"),
     ("md5", "Promises", "pieces-taken", "PiecesTaken"),
     ("md5", "Promises", "tail-zero", "TailZero"),

@@ -4,3 +4,4 @@ pub mod Elements
 pub mod LowFirst
 pub mod HighFirst
 pub mod Loops
+pub mod Computed
