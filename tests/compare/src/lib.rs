@@ -4,7 +4,7 @@
 //! Environment variables, all optional:
 //!   RIMEMAGPIE_CASES    cases for each entry (100,000)
 //!   RIMEMAGPIE_SEED     what the cases are drawn from (1)
-//!   RIMEMAGPIE_LIB_DIR  the folder of libc_api.a and libdigest_steps.a (target/staticlib)
+//!   RIMEMAGPIE_LIB_DIR  the folder of librimemagpie.a and libdigest_steps.a (target/staticlib)
 //!   RIMEMAGPIE_JUDGE    the program judge (target/bin/judge)
 //! Relative paths are taken from the top of the repository.
 

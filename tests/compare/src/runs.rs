@@ -80,8 +80,8 @@ impl Implementation for Library {
 pub fn lend(book: &mut Book) -> rimemagpie::Book<'_> {
     rimemagpie::Book {
         ids: &mut book.ids,
-        key_lengths: &mut book.key_lengths,
-        key_store: &mut book.key_store,
+        lengths: &mut book.lengths,
+        store: &mut book.store,
         received: &mut book.received,
         sent: &mut book.sent,
         rows: book.rows,
