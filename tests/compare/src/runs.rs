@@ -1,5 +1,5 @@
-//! Runs of checks and seals, and second runs as the network may make them (document 00, demand 3;
-//! document 01, 'Runs').
+//! Runs of checks and seals, and second runs as the network may make them (docs/RULES.md,
+//! 'The demands' and 'Runs').
 //!
 //! In a second run, checks that name one secret keep their order and so do seals under one secret;
 //! all else is shuffled, checked messages are relay-changed, and checks that are refused where they

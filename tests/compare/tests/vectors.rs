@@ -1,5 +1,5 @@
 //! Outside answers through the interface: RFC 1321's digests, RFC 2202's HMAC-MD5 cases, and the
-//! bench examples of document 01 by number.
+//! bench examples of docs/RULES.md by number.
 
 use compare::runs::lend;
 use reference::examples::{

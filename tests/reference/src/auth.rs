@@ -1,4 +1,5 @@
-//! Check, key of a message and seal (document 01, 'Check, key and seal'; RFC 3118, section 5).
+//! Check, key of a message and seal (docs/RULES.md, 'Check', 'Key of a message' and 'Seal';
+//! RFC 3118, section 5).
 
 use crate::book::Book;
 use crate::hmac::hmac_md5;

@@ -1,4 +1,4 @@
-//! The key book as a caller lends it (document 01, 'The key book').
+//! The key book as a caller lends it (docs/RULES.md, 'The key book').
 
 use std::ops::Range;
 

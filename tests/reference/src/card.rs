@@ -1,4 +1,4 @@
-//! The card on which a book is stored (document 01, 'The card').
+//! The card on which a book is stored (docs/RULES.md, 'The card').
 //!
 //! Records follow one another without gap: length (2 bytes, counting kind and body), kind (2),
 //! body. All numbers are little-endian. Kind 1, a row: id (4), received (8), sent (8), key (1 to

@@ -1,5 +1,5 @@
 //! Examples with outside answers: RFC 1321's digests, RFC 2202's HMAC-MD5 cases, and the bench
-//! examples of document 01. They are data only, so that every implementation can be held against
+//! examples of docs/RULES.md. They are data only, so that every implementation can be held against
 //! them.
 
 use crate::book::Book;

@@ -38,7 +38,7 @@ pub fn digest(message: &[u8]) -> Result<[u8; 16], Refusal> {
     Ok(md5(message))
 }
 
-/// A digest in progress (document 01, 'MD5 and HMAC-MD5'): of the tail the first (total mod 64)
+/// A digest in progress (docs/RULES.md, 'Digests'): of the tail the first (total mod 64)
 /// bytes are in use. The fields may hold anything; every state has an answer.
 #[derive(Clone, Copy, Debug, PartialEq, Eq)]
 pub struct Progress {

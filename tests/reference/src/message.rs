@@ -1,5 +1,5 @@
 //! The DHCPv4 message: its fixed part, its options, numbers 2 to 9, and the image that the MAC
-//! covers.
+//! covers (docs/RULES.md, 'The message' and 'The covered image').
 //!
 //! Fixed part (RFC 2131), by offset: hops 3; giaddr 24..28; cookie 236..240; options from 240.
 //!

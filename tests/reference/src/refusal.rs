@@ -1,4 +1,4 @@
-//! The refusals, each with the number it gives back (document 01, 'Numbers given back').
+//! The refusals, each with the number it gives back (docs/RULES.md, 'Numbers').
 
 /// Why an entry refuses. The lowest number that applies is the one given.
 #[derive(Clone, Copy, Debug, PartialEq, Eq)]

@@ -1,5 +1,5 @@
-//! The bench examples of document 01, by number, on the second implementation. (Example 9's program
-//! is run by the tests beside the library.)
+//! The bench examples of docs/RULES.md, by number, on the second implementation. (Example 9's
+//! program is run by the tests beside the library.)
 
 use reference::examples::{accepted_by_b, book_b, refused_by_b, CARD_B, CARD_EMPTY};
 use reference::refusal::number_of;
