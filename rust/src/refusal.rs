@@ -1,4 +1,4 @@
-//! The refusals by name, each with the number that the C interface returns.
+//! The refusals by the names of crates/refusal, each with the number that the C interface returns.
 
 use std::error::Error;
 use std::fmt;
@@ -16,7 +16,7 @@ macro_rules! refusals {
             /// Every refusal, in the order of the numbers.
             pub const ALL: &'static [Refusal] = &[$(Refusal::$name,)*];
 
-            /// The number that the C interface returns for it, 1 to 17.
+            /// The number that the C interface returns for it.
             pub fn number(self) -> u8 {
                 match self {
                     $(Refusal::$name => $number,)*

@@ -31,11 +31,14 @@ fn in_camel_case(name: &str) -> String {
     name.split('_').map(word).collect()
 }
 
-/// The refusals of the Rattle code, which the others are held against: 17 of them.
+/// The refusals of the Rattle code, which the others are held against: numbered from 1 on.
 fn refusals_in_rattle() -> Vec<Named> {
     let named = refusals_in("crates/refusal/src/lib.rt", ["Refusal::", " => ", ","]);
-    let numbers: Vec<u8> = named.iter().map(|(_, number)| *number).collect();
-    assert_eq!(numbers, (1..=17).collect::<Vec<u8>>());
+    assert!(!named.is_empty());
+    assert!(named
+        .iter()
+        .map(|(_, number)| *number)
+        .eq(1..=named.len() as u8));
     named
 }
 
