@@ -96,7 +96,7 @@ THEOREMS = [
     ("demands", "LastCounter", "last-counter", "LastCounter"),
     ("demands", "History", "history", "History"),
     ("demands", "Bench", "bench-table", "BenchTable"),
-    ("worked_runs", "Example3", "example-3", "Example3"),
+    ("worked_runs", "Shuffled", "shuffled", "Shuffled"),
     ("worked_runs", "Crossed", "crossed", "Crossed"),
     ("worked_runs", "MoreNumbers", "more-numbers", "MoreNumbers"),
     ("worked_runs", "OtherBooks", "other-books", "OtherBooks"),

@@ -2,6 +2,6 @@ pub mod Little
 pub mod Loops
 pub mod Shape
 pub mod Says
-pub mod Judging
+pub mod Counting
 pub mod Writes
 pub mod Loads

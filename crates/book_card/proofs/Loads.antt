@@ -20,7 +20,7 @@ use Rattle.book_card.specs.Reading.{slotOf, slotsOf, laid, loaded, readA
 use Rattle.book_card.specs.Stores.{storedAt}
 use Rattle.book_card.specs.declared.Front.{Front}
 use Rattle.book_card.specs.declared.Front.the-variants.{Row as RowFront}
-use Rattle.book_card.specs.declared.Judged.the-variants.{Malformed, Rows as Counted}
+use Rattle.book_card.specs.declared.Counted.the-variants.{Malformed, Rows as RowCount}
 use Rattle.book_card.specs.declared.ReadAnswer.{ReadAnswer}
 use Rattle.book_card.specs.declared.ReadAnswer.the-variants.{Refused, Rows}
 use Rattle.book_card.proofs.Loops.{Storing, storing-start, storing-run, storing-turn, storing-end}
@@ -37,7 +37,7 @@ pub record CardRows (card : List ℕ) (n : ℕ) : Type 0 where
 
 -- what the first pass told
 module _ (card : List ℕ) (h : Bytes card) where
-  card-rows : (o : Option (List Row)) → readCard card ≡ o → (n : ℕ) → Counted n ≡ countedFrom 0 o → CardRows card n
+  card-rows : (o : Option (List Row)) → readCard card ≡ o → (n : ℕ) → RowCount n ≡ countedFrom 0 o → CardRows card n
   unfolding rowsIn
   card-rows none e n c = absurd (let z : _≡_ {A = ℕ} 0 1 = cc in omega arith)
   card-rows (some rows) e n c =
@@ -46,7 +46,7 @@ module _ (card : List ℕ) (h : Bytes card) where
       let z : 0 + length rows ≡ n = cc in
       record { reads = e ∙ ap some (sym i); order = rw i (s .0); bytes = rw i (s .1); count = rw i (omega arith) }
 
-  pub counted-rows : (n : ℕ) → Counted n ≡ countedFrom 0 (readCard card) → CardRows card n
+  pub counted-rows : (n : ℕ) → RowCount n ≡ countedFrom 0 (readCard card) → CardRows card n
   counted-rows n c = card-rows (readCard card) refl n c
 
 pub slot-length : (key : List ℕ) → length key ≤ slotSize → length (slotOf key) ≡ slotSize

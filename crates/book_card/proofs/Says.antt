@@ -15,8 +15,8 @@ use lib.Seq.{take-append-seam}
 use Rattle.key_book.specs.Limits.{rowsMost}
 use Rattle.book_card.specs.Numbers.{Bytes}
 use Rattle.book_card.specs.Card.{Row, countSize, rowRecord, rowRecords, close, cardOf, RowFits, noRow, InOrder}
-use Rattle.book_card.specs.Reader.{keyAt, closeSize, frontOf, rowFront, End, closed, fault, FrontRows}
-use Rattle.book_card.specs.Reader.{ended, onto, stepFrom, frontFrom, rowsInFront, rowsBy, cardIn, readCard}
+use Rattle.book_card.specs.Reader.{keyAt, closeSize, frontOf, rowFront, CardEnd, closed, fault, FrontRows}
+use Rattle.book_card.specs.Reader.{ended, withRow, stepFrom, frontFrom, rowsInFront, rowsBy, cardIn, readCard}
 use Rattle.book_card.specs.Laws.{FrontSays, CardSays, MalformedSays}
 use Rattle.book_card.specs.declared.Front.{Front}
 use Rattle.book_card.specs.declared.Front.the-variants.{Broken, Row as RowFront, Close}
@@ -68,7 +68,7 @@ after-in-order rows a l = record { few = l; fit = λ k h. after-at 0 rows a k h 
 -- what comes of a row, however many are still allowed
 unfoldable pub goOn : ℕ → List ℕ → Row → ℕ → ℕ → List ℕ → FrontRows
 goOn zero s r l m t = ended fault s
-goOn (suc left) s r l m t = onto r (frontFrom left l m t)
+goOn (suc left) s r l m t = withRow r (frontFrom left l m t)
 
 pub front-step : (left low n : ℕ) (s : List ℕ) → frontFrom left low n s ≡ stepFrom (goOn left s) low n s (frontOf s)
 unfolding frontFrom goOn
@@ -101,10 +101,10 @@ reads (r ∷ rows) (suc left) low n t a l =
     let d : left - length rows ≡ suc left - suc (length rows) = omega arith in
     ap (frontFrom (suc left) low n) (append-assoc (rowRecord r) (rowRecords rows) t)
     ∙ front-step (suc left) low n s ∙ ap (stepFrom (goOn (suc left) s) low n s) (front-of-row r u f)
-    ∙ ap (λ (b : Bool). cond b (ended fault s) (onto (rowFront s size) (frontFrom left (suc (r .id)) (suc n) (drop (keyAt + size) s))))
+    ∙ ap (λ (b : Bool). cond b (ended fault s) (withRow (rowFront s size) (frontFrom left (suc (r .id)) (suc n) (drop (keyAt + size) s))))
     (le-ltb (r .id) low (a .0))
-    ∙ ap₂ (λ (q : Row) (l : List ℕ). onto q (frontFrom left (suc (r .id)) (suc n) l)) (row-of-front r u f) (row-read r u f .rest)
-    ∙ ap (onto r) (reads rows left (suc (r .id)) (suc n) t (a .1 .1) (omega arith))
+    ∙ ap₂ (λ (q : Row) (l : List ℕ). withRow q (frontFrom left (suc (r .id)) (suc n) l)) (row-of-front r u f) (row-read r u f .rest)
+    ∙ ap (withRow r) (reads rows left (suc (r .id)) (suc n) t (a .1 .1) (omega arith))
     ∙ ap₂ (λ (x y : ℕ). ahead (r ∷ rows) (frontFrom x (lowAfter (suc (r .id)) rows) y t)) d e
 
 reads-close : (left low n : ℕ) → n < 256 ^ countSize → frontFrom left low n (close n) ≡ ended closed (close n)
@@ -147,7 +147,7 @@ good-closed left low n m s g e q =
     }
 
 good-onto : (left low n id size : ℕ) (s : List ℕ) (f : FrontRows) → low ≤ id → GoodRow s id size → Good left (suc id) (suc n) (drop (keyAt + size) s) f
-    → Good (suc left) low n s (onto (rowFront s size) f)
+    → Good (suc left) low n s (withRow (rowFront s size) f)
 unfolding After rowRecords
 good-onto left low n id size s f l g a =
     let r = rowFront s size in
@@ -215,7 +215,7 @@ pub record Closed (f : FrontRows) (rows : List Row) : Type 0 where
 card-closed : (f : FrontRows) (rows : List Row) → cardIn f ≡ some rows → Closed f rows
 card-closed f rows e = on (f .ends) refl e
   where
-    on : (x : End) → f .ends ≡ x → rowsBy (f .rows) x ≡ some rows → Closed f rows
+    on : (x : CardEnd) → f .ends ≡ x → rowsBy (f .rows) x ≡ some rows → Closed f rows
     on closed p q = record { those = cc; ended-closed = p }
     on fault p q = absurd (let z : _≡_ {A = ℕ} 0 1 = cc in omega arith)
 

@@ -17,7 +17,7 @@ use Rattle.book_card.specs.Numbers.{le}
 use Rattle.book_card.specs.Card.{lengthSize, kindSize, idSize, counterSize, countSize, rowKind, closeKind, Row, recordOf, rowRecord, close, rowRecords, cardOf}
 use Rattle.book_card.specs.Reader.{kindAt, bodyAt, receivedAt, sentAt, keyAt, closeSize}
 use Rattle.book_card.specs.Stores.{storedAt}
-use Rattle.book_card.specs.Writing.{rowAt, rowsFrom, rowsOf, sizeTo, writeOf, written, writtenBy}
+use Rattle.book_card.specs.Writing.{rowAt, rowsFrom, rowsOf, sizeTo, writeOf, roomAfter, roomBy}
 use Rattle.book_card.specs.declared.WriteAnswer.{WriteAnswer}
 use Rattle.book_card.specs.declared.WriteAnswer.the-variants.{Refused, Size}
 use Rattle.book_card.proofs.Little.{le-length}
@@ -220,11 +220,11 @@ rows-in b s =
 -- the ends of `card_write`: the answer, and the room afterwards
 module _ (b : Book) (room : List ℕ) where
   abbrev Ends : WriteAnswer → List ℕ → Type 0
-  Ends answer after = (answer ≡ writeOf b (length room)) × (after ≡ written b room)
+  Ends answer after = (answer ≡ writeOf b (length room)) × (after ≡ roomAfter b room)
 
-  ended : (answer : WriteAnswer) → answer ≡ writeOf b (length room) → Ends answer (writtenBy b room answer)
-  unfolding written
-  ended answer e = (e, ap (writtenBy b room) e)
+  ended : (answer : WriteAnswer) → answer ≡ writeOf b (length room) → Ends answer (roomBy b room answer)
+  unfolding roomAfter
+  ended answer e = (e, ap (roomBy b room) e)
 
   module _ (t : Bool) (e : t ≡ sound b) where
     pub write-unsound : not t ≡ true → Ends (Refused UnsoundBook) room

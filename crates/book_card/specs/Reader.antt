@@ -11,8 +11,8 @@ use Rattle.book_card.specs.Numbers.{numberAt}
 use Rattle.book_card.specs.Card.{lengthSize, kindSize, idSize, counterSize, countSize, rowKind, closeKind, Row}
 use Rattle.book_card.specs.declared.Front.{Front}
 use Rattle.book_card.specs.declared.Front.the-variants.{Broken, Row as RowFront, Close}
-use Rattle.book_card.specs.declared.Judged.{Judged}
-use Rattle.book_card.specs.declared.Judged.the-variants.{Malformed, Rows as Counted}
+use Rattle.book_card.specs.declared.Counted.{Counted}
+use Rattle.book_card.specs.declared.Counted.the-variants.{Malformed, Rows as RowCount}
 
 -- offsets in a record: the kind, and then a row's fields, or the close's number of rows
 abbrev pub kindAt : ℕ
@@ -54,22 +54,22 @@ rowFront s size =
     record { id = numberAt s bodyAt idSize; received = numberAt s receivedAt counterSize; sent = numberAt s sentAt counterSize; key = take size (drop keyAt s) }
 
 -- how the rows in front of bytes end: the close follows them, numbers them and is last; or anything else stands there
-pub data End : Type 0 where
-  closed : End
-  fault : End
+pub data CardEnd : Type 0 where
+  closed : CardEnd
+  fault : CardEnd
 
 -- the rows in front of bytes, how they end, and the bytes that follow them
 pub record FrontRows : Type 0 where
   pub rows : List Row
-  pub ends : End
+  pub ends : CardEnd
   pub rest : List ℕ
 
 -- no row in front
-abbrev pub ended : End → List ℕ → FrontRows
+abbrev pub ended : CardEnd → List ℕ → FrontRows
 ended e s = record { rows = []; ends = e; rest = s }
 
-abbrev pub onto : Row → FrontRows → FrontRows
-onto r f = record { rows = r ∷ f .rows; ends = f .ends; rest = f .rest }
+abbrev pub withRow : Row → FrontRows → FrontRows
+withRow r f = record { rows = r ∷ f .rows; ends = f .ends; rest = f .rest }
 
 -- one step of reading: `low` is the least id that may follow, `n` the rows before; `go` is what comes of a row and of what follows it
 abbrev pub stepFrom : (Row → ℕ → ℕ → List ℕ → FrontRows) → ℕ → ℕ → List ℕ → Front → FrontRows
@@ -80,14 +80,14 @@ stepFrom go low n s (RowFront id size) = cond (ltb id low) (ended fault s) (go (
 -- what follows, where at most `left` rows may
 unfoldable pub frontFrom : ℕ → ℕ → ℕ → List ℕ → FrontRows
 frontFrom zero low n s = stepFrom (λ _ _ _ _. ended fault s) low n s (frontOf s)
-frontFrom (suc left) low n s = stepFrom (λ r l m t. onto r (frontFrom left l m t)) low n s (frontOf s)
+frontFrom (suc left) low n s = stepFrom (λ r l m t. withRow r (frontFrom left l m t)) low n s (frontOf s)
 
 -- the rows in front of a byte string that is to be a card
 unfoldable pub rowsInFront : List ℕ → FrontRows
 rowsInFront s = frontFrom rowsMost 0 0 s
 
 -- the rows of a card, by the rows in front and how they end
-abbrev pub rowsBy : List Row → End → Option (List Row)
+abbrev pub rowsBy : List Row → CardEnd → Option (List Row)
 rowsBy rows closed = some rows
 rowsBy rows fault = none
 
@@ -99,6 +99,6 @@ unfoldable pub readCard : List ℕ → Option (List Row)
 readCard s = cardIn (rowsInFront s)
 
 -- the answer of the first pass, begun with n rows
-abbrev pub countedFrom : ℕ → Option (List Row) → Judged
+abbrev pub countedFrom : ℕ → Option (List Row) → Counted
 countedFrom n none = Malformed
-countedFrom n (some rows) = Counted (n + length rows)
+countedFrom n (some rows) = RowCount (n + length rows)

@@ -36,12 +36,12 @@ writeOf b room =
     cond (sound b) (cond (ltb room (length (cardOf (rowsOf b)))) (Refused NoRoomForCard) (Size (length (cardOf (rowsOf b))))) (Refused UnsoundBook)
 
 -- the room afterwards, by the answer: a refusal changes nothing
-abbrev pub writtenBy : Book → List ℕ → WriteAnswer → List ℕ
-writtenBy b room (Refused x) = room
-writtenBy b room (Size n) = cardOf (rowsOf b) ++ drop n room
+abbrev pub roomBy : Book → List ℕ → WriteAnswer → List ℕ
+roomBy b room (Refused x) = room
+roomBy b room (Size n) = cardOf (rowsOf b) ++ drop n room
 
-unfoldable pub written : Book → List ℕ → List ℕ
-written b room = writtenBy b room (writeOf b (length room))
+unfoldable pub roomAfter : Book → List ℕ → List ℕ
+roomAfter b room = roomBy b room (writeOf b (length room))
 
 -- the paper's number of an answer
 abbrev pub writeNumber : WriteAnswer → ℕ

@@ -17,7 +17,7 @@ ghost use Rattle.book_card.specs.Numbers.{le, numberAt};
 ghost use Rattle.book_card.specs.Card.{rowRecord, cardOf};
 ghost use Rattle.book_card.specs.Reader.{keyAt, frontOf, readCard, countedFrom};
 ghost use Rattle.book_card.specs.Reading.{readOf, readBook, rowsIn, loaded, rowsGiven};
-ghost use Rattle.book_card.specs.Writing.{rowAt, rowsOf, sizeTo, writeOf, written};
+ghost use Rattle.book_card.specs.Writing.{rowAt, rowsOf, sizeTo, writeOf, roomAfter};
 use key_book::ROWS_MOST;
 use key_book::SLOT_SIZE;
 use refusal::Refusal;
@@ -61,7 +61,7 @@ enum Front {
 }
 
 // What the first pass over a card finds.
-enum Judged {
+enum Counted {
     Malformed,
     // A card of so many rows.
     Rows(usize),
@@ -135,7 +135,7 @@ fn front_at(card: &[u8], at: usize) -> Front
 }
 
 // The first pass: whether the bytes are a card, and of how many rows. Nothing is written before it is known.
-fn judge(card: &[u8]) -> Judged
+fn count_rows(card: &[u8]) -> Counted
     ensures { λ r. ⌜ r ≡ countedFrom 0 (readCard (now (card .entry))) ⌝ }
 {
     let mut at: usize = 0;
@@ -146,23 +146,23 @@ fn judge(card: &[u8]) -> Judged
         let front = front_at(card, at);
         match front {
             Front::Broken => {
-                return Judged::Malformed;
+                return Counted::Malformed;
             }
             Front::Close(count) => {
                 if card.len() - at != CLOSE_SIZE {
-                    return Judged::Malformed;
+                    return Counted::Malformed;
                 }
                 if count != rows {
-                    return Judged::Malformed;
+                    return Counted::Malformed;
                 }
-                return Judged::Rows(rows);
+                return Counted::Rows(rows);
             }
             Front::Row { id, size } => {
                 if rows == ROWS_MOST {
-                    return Judged::Malformed;
+                    return Counted::Malformed;
                 }
                 if (id as u64) < low {
-                    return Judged::Malformed;
+                    return Counted::Malformed;
                 }
                 low = id as u64 + 1;
                 at = at + KEY_AT + size;
@@ -221,7 +221,7 @@ fn fill(
     received: &mut [u64],
     sent: &mut [u64],
 )
-    requires { ⌜ Judged.Rows rows ≡ countedFrom 0 (readCard (now card)) ⌝ }
+    requires { ⌜ Counted.Rows rows ≡ countedFrom 0 (readCard (now card)) ⌝ }
     requires { ⌜ Sized (bookOf (now ids) (now lengths) (now store) (now received) (now sent) 0) ⌝ }
     requires { ⌜ rows ≤ length (now ids) ⌝ }
     ensures { λ _. ⌜ bookOf (now (ids .exit)) (now (lengths .exit)) (now (store .exit)) (now (received .exit)) (now (sent .exit)) rows ≡ loaded (bookOf (now (ids .entry)) (now (lengths .entry)) (now (store .entry)) (now (received .entry)) (now (sent .entry)) 0) (rowsIn (now (card .entry))) ⌝ }
@@ -262,8 +262,8 @@ pub fn card_read(
     if !key_book::sizes_agree(ids, lengths, store, received, sent) {
         return ReadAnswer::Refused(Refusal::UnsoundBook);
     }
-    let judged = judge(card);
-    let Judged::Rows(rows) = judged else {
+    let counted = count_rows(card);
+    let Counted::Rows(rows) = counted else {
         return ReadAnswer::Refused(Refusal::MalformedCard);
     };
     if ids.len() < rows {
@@ -353,7 +353,7 @@ pub fn card_write(
     card: &mut [u8],
 ) -> WriteAnswer
     ensures answer { λ r. ⌜ r ≡ writeOf (bookOf (now (ids .entry)) (now (lengths .entry)) (now (store .entry)) (now (received .entry)) (now (sent .entry)) rows) (length (now (card .entry))) ⌝ }
-    ensures after { λ r. ⌜ now (card .exit) ≡ written (bookOf (now (ids .entry)) (now (lengths .entry)) (now (store .entry)) (now (received .entry)) (now (sent .entry)) rows) (now (card .entry)) ⌝ }
+    ensures after { λ r. ⌜ now (card .exit) ≡ roomAfter (bookOf (now (ids .entry)) (now (lengths .entry)) (now (store .entry)) (now (received .entry)) (now (sent .entry)) rows) (now (card .entry)) ⌝ }
 {
     if !key_book::is_sound(ids, lengths, store, received, sent, rows) {
         return WriteAnswer::Refused(Refusal::UnsoundBook);

@@ -5,12 +5,12 @@ use Rattle.book_card.specs.Numbers.{le, value, numberAt}
 use Rattle.book_card.specs.Card.{recordOf, rowRecord, close, rowRecords, cardOf}
 use Rattle.book_card.specs.Reader.{frontOf, frontFrom, rowsInFront, readCard}
 use Rattle.book_card.specs.Reading.{slotOf, slotsOf, laid, loaded, readOf, rowsIn, readBook}
-use Rattle.book_card.specs.Writing.{rowsFrom, rowsOf, writeOf, written}
+use Rattle.book_card.specs.Writing.{rowsFrom, rowsOf, writeOf, roomAfter}
 use Rattle.card_laws.specs.Examples.{Example1, OrderedBytes, FrontExample, Example2}
 
 pub example-1 : Example1
 unfolding allBelow sized ascending keySizes sound keyFits keyIn le value numberAt recordOf rowRecord close rowRecords cardOf
-    frontOf frontFrom rowsInFront readCard slotOf slotsOf laid loaded readOf rowsIn readBook rowsFrom rowsOf writeOf written
+    frontOf frontFrom rowsInFront readCard slotOf slotsOf laid loaded readOf rowsIn readBook rowsFrom rowsOf writeOf roomAfter
 example-1 = record { card = refl; size = refl; written-size = refl; written-bytes = refl; read-back = refl; read-book = refl }
 
 pub ordered-bytes : OrderedBytes

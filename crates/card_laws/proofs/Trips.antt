@@ -20,7 +20,7 @@ use Rattle.book_card.specs.Numbers.{le, Bytes}
 use Rattle.book_card.specs.Card.{lengthSize, kindSize, idSize, counterSize, countSize, rowKind, closeKind, Row, recordOf, rowRecord, rowRecords, close, cardOf, RowFits, noRow, InOrder}
 use Rattle.book_card.specs.Reader.{keyAt, closeSize, readCard}
 use Rattle.book_card.specs.Reading.{slotOf, slotsOf, laid, loaded, readAs, readOf, rowsIn, readBy, readBook}
-use Rattle.book_card.specs.Writing.{rowAt, rowsFrom, rowsOf, writeOf, written, writtenBy}
+use Rattle.book_card.specs.Writing.{rowAt, rowsFrom, rowsOf, writeOf, roomAfter, roomBy}
 use Rattle.card_laws.specs.Laws.{fullRows, LargestCard, WriteThenRead, ReadThenWrite, SameRows, WriteDepends}
 use Rattle.book_card.specs.declared.ReadAnswer.the-variants.{Refused, Rows}
 use Rattle.book_card.specs.declared.WriteAnswer.{WriteAnswer}
@@ -268,9 +268,9 @@ module _ (b : Book) (s : Sound b) (room : List ℕ) (h : length (cardOf (rowsOf 
   unfolding writeOf
   writes = rw (sound-says b .1 s, le-ltb (length room) (length (cardOf (rowsOf b))) h)
 
-  writes-bytes : written b room ≡ cardOf (rowsOf b) ++ drop (length (cardOf (rowsOf b))) room
-  unfolding written
-  writes-bytes = ap (writtenBy b room) writes
+  writes-bytes : roomAfter b room ≡ cardOf (rowsOf b) ++ drop (length (cardOf (rowsOf b))) room
+  unfolding roomAfter
+  writes-bytes = ap (roomBy b room) writes
 
 -- reading a card of rows in order into a book with room for them
 module _ (b : Book) (z : Sized b) (card : List ℕ) (rows : List Row) (e : readCard card ≡ some rows) (room : length rows ≤ length (b .ids)) where
@@ -286,7 +286,7 @@ pub write-then-read : WriteThenRead
 write-then-read b l s room h into z r =
     let o = rows-in-order b l s in
     let card = cardOf (rowsOf b) in
-    let e : take (length card) (written b room) ≡ card = ap (take (length card)) (writes-bytes b s room h) ∙ take-at card (drop (length card) room) (length card) refl in
+    let e : take (length card) (roomAfter b room) ≡ card = ap (take (length card)) (writes-bytes b s room h) ∙ take-at card (drop (length card) room) (length card) refl in
     let reads : readCard card ≡ some (rowsOf b) = card-says card (card-bytes (rowsOf b) o) (rowsOf b) .1 (o, refl) in
     let n = rows-count b l s in
     let q : length (rowsOf b) ≤ length (into .ids) = omega arith in
@@ -360,12 +360,12 @@ module _ (b c : Book) (s : Sound b) (t : Sound c) (a : SameRows b c) where
   unfolding writeOf
   same-answer n = let e = sound-says b .1 s ∙ sym (sound-says c .1 t) in rw (e, same-rows-of)
 
-  same-written : (room : List ℕ) (answer : WriteAnswer) → writtenBy b room answer ≡ writtenBy c room answer
+  same-written : (room : List ℕ) (answer : WriteAnswer) → roomBy b room answer ≡ roomBy c room answer
   same-written room (NotWritten x) = refl
   same-written room (Size n) = ap (λ (rows : List Row). cardOf rows ++ drop n room) same-rows-of
 
 pub write-depends : WriteDepends
-unfolding written
+unfolding roomAfter
 write-depends b c s t a room =
     let e = same-answer b c s t a (length room) in
-    (e, ap (writtenBy b room) e ∙ same-written b c s t a room (writeOf c (length room)))
+    (e, ap (roomBy b room) e ∙ same-written b c s t a room (writeOf c (length room)))

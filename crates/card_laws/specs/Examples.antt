@@ -10,7 +10,7 @@ use Rattle.key_book.specs.Book.{Book, bookOf}
 use Rattle.book_card.specs.Card.{Row, cardOf}
 use Rattle.book_card.specs.Reader.{closed, fault, rowsInFront, readCard}
 use Rattle.book_card.specs.Reading.{readOf, readBook}
-use Rattle.book_card.specs.Writing.{rowsOf, writeOf, written}
+use Rattle.book_card.specs.Writing.{rowsOf, writeOf, roomAfter}
 use Rattle.book_card.specs.declared.ReadAnswer.the-variants.{Refused, Rows}
 use Rattle.book_card.specs.declared.WriteAnswer.the-variants.{Size}
 
@@ -41,7 +41,7 @@ pub record Example1 : Type 0 where
   pub card : cardOf (rowsOf bookB) ≡ cardB
   pub size : length cardB ≡ 34
   pub written-size : writeOf bookB 34 ≡ Size 34
-  pub written-bytes : written bookB (replicate 34 0) ≡ cardB
+  pub written-bytes : roomAfter bookB (replicate 34 0) ≡ cardB
   pub read-back : readOf fullRoom cardB ≡ Rows 1
   pub read-book : readBook fullRoom cardB ≡ roomWithB
 

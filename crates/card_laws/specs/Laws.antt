@@ -11,7 +11,7 @@ use Rattle.book_card.specs.Numbers.{Bytes}
 use Rattle.book_card.specs.Card.{Row, noRow, InOrder, cardOf}
 use Rattle.book_card.specs.Reader.{keyAt, closeSize}
 use Rattle.book_card.specs.Reading.{readOf, readBook}
-use Rattle.book_card.specs.Writing.{rowsOf, writeOf, written}
+use Rattle.book_card.specs.Writing.{rowsOf, writeOf, roomAfter}
 use Rattle.book_card.specs.declared.ReadAnswer.the-variants.{Rows}
 use Rattle.book_card.specs.declared.WriteAnswer.the-variants.{Size}
 
@@ -66,8 +66,8 @@ ReadSays =
 -- write a sound book's card, and read those bytes into any room for its rows: the same ids, keys and counters
 pub record WrittenRead (b : Book) (room : List ℕ) (into : Book) : Type 0 where
   pub size : writeOf b (length room) ≡ Size (length (cardOf (rowsOf b)))
-  pub answer : readOf into (take (length (cardOf (rowsOf b))) (written b room)) ≡ Rows (b .rows)
-  pub rows : rowsOf (readBook into (take (length (cardOf (rowsOf b))) (written b room))) ≡ rowsOf b
+  pub answer : readOf into (take (length (cardOf (rowsOf b))) (roomAfter b room)) ≡ Rows (b .rows)
+  pub rows : rowsOf (readBook into (take (length (cardOf (rowsOf b))) (roomAfter b room))) ≡ rowsOf b
 
 abbrev pub WriteThenRead : Type 0
 WriteThenRead =
@@ -78,7 +78,7 @@ WriteThenRead =
 pub record ReadWritten (card : List ℕ) (into : Book) (room : List ℕ) : Type 0 where
   pub loaded-sound : Sound (readBook into card)
   pub size : writeOf (readBook into card) (length room) ≡ Size (length card)
-  pub bytes : written (readBook into card) room ≡ card ++ drop (length card) room
+  pub bytes : roomAfter (readBook into card) room ≡ card ++ drop (length card) room
 
 abbrev pub ReadThenWrite : Type 0
 ReadThenWrite =
@@ -96,4 +96,4 @@ pub record SameRows (b c : Book) : Type 0 where
 abbrev pub WriteDepends : Type 0
 WriteDepends =
     (b c : Book) → Sound b → Sound c → SameRows b c → (room : List ℕ)
-    → (writeOf b (length room) ≡ writeOf c (length room)) × (written b room ≡ written c room)
+    → (writeOf b (length room) ≡ writeOf c (length room)) × (roomAfter b room ≡ roomAfter c room)

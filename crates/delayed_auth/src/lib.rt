@@ -251,14 +251,14 @@ fn write_seal(key: &[u8], auth: Auth, counter: u64, id: u32, message: &mut [u8])
     let from = auth.at + dhcp_message::COUNTER_AT;
     let to = auth.at + dhcp_message::FULL_SIZE;
     dhcp_message::put_fields(&mut message[from..to], counter, id);
-    let written = Auth {
+    let renewed = Auth {
         at: auth.at,
         counter: counter,
         id: id,
         cut: auth.cut,
         gap: auth.gap,
     };
-    let mac = mac_of(key, message, written);
+    let mac = mac_of(key, message, renewed);
     dhcp_message::put_mac(&mut message[from..to], mac);
 }
 

@@ -17,7 +17,7 @@ use Rattle.delayed_auth.specs.declared.Verdict.{Verdict}
 use Rattle.delayed_auth.specs.declared.Verdict.the-variants.{Accepted, Refused}
 use Rattle.delayed_auth.specs.Check.{checkOf, receivedAfter}
 use Rattle.delayed_auth.specs.Seal.{Outcome, sealed, unsealed, sealOf, sealingOf, messageAfter, sentAfter}
-use Rattle.demands.specs.Demand3.{Step, check, seal, checked, wrote, answerOf, bookAfter, answers, ending, before}
+use Rattle.demands.specs.Demand3.{Step, check, seal, checked, wrote, answerOf, bookAfter, answers, ending, bookAt}
 use Rattle.demands.specs.Demand3.{Carried, same, relayed, OneSecret, checks, seals}
 use Rattle.demands.proofs.Stages.{never}
 use Rattle.demands.proofs.Runs.{Walk, Local}
@@ -29,13 +29,13 @@ abbrev pub walk : Walk answerOf bookAfter
 walk = record {
   answers = answers;
   ending = ending;
-  before = before;
+  bookAt = bookAt;
   answers-next = λ b s l. refl;
   ending-none = λ b. refl;
   ending-next = λ b s l. refl;
-  before-none = λ b i. refl;
-  before-first = λ b s l. refl;
-  before-next = λ b s l i. refl;
+  book-at-none = λ b i. refl;
+  book-at-first = λ b s l. refl;
+  book-at-next = λ b s l i. refl;
 }
 
 pub data Channel : Type 0 where

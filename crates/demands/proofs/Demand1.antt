@@ -51,9 +51,9 @@ use Rattle.book_card.specs.Card.{Row, InOrder, cardOf}
 use Rattle.book_card.specs.Numbers.{Bytes as CardBytes}
 use Rattle.book_card.specs.Reader.{readCard}
 use Rattle.book_card.specs.Reading.{readAs, readOf, readBy, readBook, readNumber}
-use Rattle.book_card.specs.Writing.{rowsOf, writeOf, writtenBy, written, writeNumber}
+use Rattle.book_card.specs.Writing.{rowsOf, writeOf, roomBy, roomAfter, writeNumber}
 use Rattle.book_card.proofs.Says.{card-says, malformed-says}
-use Rattle.demands.specs.Demand1.{Lowest, Found, KeyApplies, not-sound, by-form, no-row, CheckApplies, by-key, not-above, differs, SealApplies, spent, DigestApplies, passes-limit, HmacApplies, long-key, long-text, ReadApplies, sizes-disagree, malformed, more-rows, WriteApplies, small-room, Demand1}
+use Rattle.demands.specs.Demand1.{Lowest, Claims, KeyApplies, not-sound, by-form, no-row, CheckApplies, by-key, not-above, differs, SealApplies, spent, DigestApplies, passes-limit, HmacApplies, long-key, long-text, ReadApplies, sizes-disagree, malformed, more-rows, WriteApplies, small-room, Demand1}
 use Rattle.demands.proofs.Lowest.{form-numbers, numberBy, NothingBelow, Right, lowest}
 use Rattle.demands.proofs.Stages.{same-equal, equal-same}
 
@@ -73,8 +73,8 @@ module _ (b : Book) (m : List ℕ) (n : ℕ) where
   key-below s f u q l (KeyApplies.no-row id e h) = u l id e h
 
   check-below : NothingBelow (KeyApplies b m) n
-      → (11 < n → (c k : ℕ) (mac : List ℕ) → Found b m c k mac → c ≤ getD (b .received) k 0 → ⊥)
-      → (12 < n → (c k : ℕ) (mac : List ℕ) → Found b m c k mac → mac ≢ hmac (keyOf b k) (imageOf m) → ⊥)
+      → (11 < n → (c k : ℕ) (mac : List ℕ) → Claims b m c k mac → c ≤ getD (b .received) k 0 → ⊥)
+      → (12 < n → (c k : ℕ) (mac : List ℕ) → Claims b m c k mac → mac ≢ hmac (keyOf b k) (imageOf m) → ⊥)
       → NothingBelow (CheckApplies b m) n
   check-below f g h q l (by-key a) = f q l a
   check-below f g h q l (not-above c k mac w e) = g l c k mac w e
@@ -140,11 +140,11 @@ module _ (b : Book) (m : List ℕ) (bytes : Bytes m) where
         key-none : (n : ℕ) → NothingBelow (KeyApplies b m) n
         key-none n = key-below b m n (λ l. is-sound) (λ q l. no-form q) (λ l. known)
 
-        found : Found b m (a .counter) k mac
+        found : Claims b m (a .counter) k mac
         found = record { id = a .id; form = said; secret = row }
 
         -- what a check finds is found once
-        same-found : (c j : ℕ) (other : List ℕ) → Found b m c j other → (c ≡ a .counter) × (j ≡ k) × (other ≡ mac)
+        same-found : (c j : ℕ) (other : List ℕ) → Claims b m c j other → (c ≡ a .counter) × (j ≡ k) × (other ≡ mac)
         same-found c j other w =
             let e : says c (w .id) other ≡ says (a .counter) (a .id) mac = sym (w .form) ∙ said in
             let i : w .id ≡ a .id = cc in
@@ -155,7 +155,7 @@ module _ (b : Book) (m : List ℕ) (bytes : Bytes m) where
         replay-check h = (not-above (a .counter) k mac found h, check-below b m 11 (key-none 11) (λ l. absurd (omega arith)) (λ l. absurd (omega arith)))
 
         module _ (above : getD (b .received) k 0 < a .counter) where
-          above-all : (c j : ℕ) (other : List ℕ) → Found b m c j other → c ≤ getD (b .received) j 0 → ⊥
+          above-all : (c j : ℕ) (other : List ℕ) → Claims b m c j other → c ≤ getD (b .received) j 0 → ⊥
           above-all c j other w h =
               let e = same-found c j other w in
               let g : getD (b .received) j 0 ≡ getD (b .received) k 0 = ap (λ (i : ℕ). getD (b .received) i 0) (e .1) in
@@ -434,11 +434,11 @@ module _ (b : Book) (room : List ℕ) where
   unfolding writeOf
   write-lowest = write-by (sound b) (ltb (length room) (length (cardOf (rowsOf b)))) refl refl
 
-  write-keeps : writeNumber (writeOf b (length room)) ≢ done → written b room ≡ room
-  unfolding written
+  write-keeps : writeNumber (writeOf b (length room)) ≢ done → roomAfter b room ≡ room
+  unfolding roomAfter
   write-keeps = by (writeOf b (length room))
     where
-      by : (a : WriteAnswer) → writeNumber a ≢ done → writtenBy b room a ≡ room
+      by : (a : WriteAnswer) → writeNumber a ≢ done → roomBy b room a ≡ room
       by (WriteRefused x) h = refl
       by (Size n) h = absurd (h refl)
 

@@ -16,19 +16,19 @@ use Rattle.key_book.specs.Book.{Book, Sound}
 use Rattle.delayed_auth.specs.declared.Verdict.{Verdict}
 use Rattle.delayed_auth.specs.declared.Verdict.the-variants.{Accepted, Refused}
 use Rattle.delayed_auth.specs.Check.{checkOf, receivedAfter}
-use Rattle.demands.specs.Demand3.{Step, check, seal, Answer, checked, bookAfter, answers, ending, before, Rearranged, SameRun, Demand3}
+use Rattle.demands.specs.Demand3.{Step, check, seal, Answer, checked, bookAfter, answers, ending, bookAt, Rearranged, SameRun, Demand3}
 use Rattle.demands.proofs.Runs.{some-at, lt-at, never-falls, next-at, answer-at, inv-at, inv-end, same-answer, same-ends}
 use Rattle.demands.proofs.Steps.{SameIds, ids-refl, step-keeps, received-room, sent-room, check-relayed, accepted-at, replays, not-accepted}
 use Rattle.demands.proofs.ByRow.{walk, Channel, channel?, receives, sends, holds, Alike, alike, channel, one-secret, local}
 
 module _ (b₀ : Book) (sound : Sound b₀) where
-  pub ids-at : (run : List Step) (i : ℕ) → SameIds b₀ (before b₀ run i)
+  pub ids-at : (run : List Step) (i : ℕ) → SameIds b₀ (bookAt b₀ run i)
   ids-at run i = inv-at walk (SameIds b₀) (step-keeps b₀) b₀ run i (ids-refl b₀ sound)
 
   ids-end : (run : List Step) → SameIds b₀ (ending b₀ run)
   ids-end run = inv-end walk (SameIds b₀) (step-keeps b₀) b₀ run (ids-refl b₀ sound)
 
-  pub sound-at : (run : List Step) (i : ℕ) → Sound (before b₀ run i)
+  pub sound-at : (run : List Step) (i : ℕ) → Sound (bookAt b₀ run i)
   sound-at run i = ids-at run i .is-sound
 
   -- ---- any order
@@ -47,10 +47,10 @@ module _ (b₀ : Book) (sound : Sound b₀) where
     put-in-holds b m e (sends k) = refl
 
     put-in : (p : ℕ) → p < length second → ((i : ℕ) → i < length first → place i ≢ p)
-        → (t : Step) × (getElem? second p ≡ some t) × ((c : Channel) → holds c (bookAfter (before b₀ second p) t) ≡ holds c (before b₀ second p))
+        → (t : Step) × (getElem? second p ≡ some t) × ((c : Channel) → holds c (bookAfter (bookAt b₀ second p) t) ≡ holds c (bookAt b₀ second p))
     put-in p l f =
         let w = made .put-in p l f in
-        let b = before b₀ second p in
+        let b = bookAt b₀ second p in
         (check (w .0), w .1, put-in-holds b (w .0) (not-accepted b (w .0) (sound-at second p) (w .2)))
 
     ends : (c : Channel) → holds c (ending b₀ second) ≡ holds c (ending b₀ first)
@@ -91,30 +91,30 @@ module _ (b₀ : Book) (sound : Sound b₀) where
   checked-same v w e = cc
 
   pub accepted-there : (run : List Step) (i : ℕ) (m : List ℕ) (k c : ℕ) → getElem? run i ≡ some (check m)
-      → getElem? (answers b₀ run) i ≡ some (checked (Accepted k c)) → checkOf (before b₀ run i) m ≡ Accepted k c
+      → getElem? (answers b₀ run) i ≡ some (checked (Accepted k c)) → checkOf (bookAt b₀ run i) m ≡ Accepted k c
   accepted-there run i m k c e a = checked-same _ _ (sym (answer-at walk b₀ run i (check m) e) ∙ a)
 
   module _
       (run : List Step) (i j : ℕ) (m : List ℕ) (k c : ℕ) (later : i < j) (at-i : getElem? run i ≡ some (check m))
       (accepted : getElem? (answers b₀ run) i ≡ some (checked (Accepted k c)))
     where
-      accepted-i : checkOf (before b₀ run i) m ≡ Accepted k c
+      accepted-i : checkOf (bookAt b₀ run i) m ≡ Accepted k c
       accepted-i = accepted-there run i m k c at-i accepted
 
       -- from then on the row's received counter is at least the accepted one
-      pub held-after : j < length run → c ≤ getD (before b₀ run j .received) k 0
+      pub held-after : j < length run → c ≤ getD (bookAt b₀ run j .received) k 0
       held-after l =
-          let b = before b₀ run i in
+          let b = bookAt b₀ run i in
           let w = accepted-at b m k c (sound-at run i) accepted-i in
-          let stored : getD (before b₀ run (suc i) .received) k 0 ≡ c =
+          let stored : getD (bookAt b₀ run (suc i) .received) k 0 ≡ c =
           rw (next-at walk b₀ run i (check m) at-i, accepted-i) (getD-set-same (b .received) k c 0 (w .inside)) in
           let f : Book → ℕ = λ x. getD (x .received) k 0 in
-          omega (arith, never-falls walk f b₀ run (suc i) j later (le-of-lt l) (λ p s x y z. rises (before b₀ run p) s k (sound-at run p)))
+          omega (arith, never-falls walk f b₀ run (suc i) j later (le-of-lt l) (λ p s x y z. rises (bookAt b₀ run p) s k (sound-at run p)))
 
       replayed : (n : List ℕ) → getElem? run j ≡ some (check n) → Relayed m n → getElem? (answers b₀ run) j ≡ some (checked (Refused Replay))
       replayed n at-j q =
-          let a = before b₀ run i in
-          let b = before b₀ run j in
+          let a = bookAt b₀ run i in
+          let b = bookAt b₀ run j in
           let again = replays b₀ a b m k c (ids-at run i) (ids-at run j) accepted-i (held-after (lt-at run j (check n) at-j)) in
           answer-at walk b₀ run j (check n) at-j ∙ ap (λ (v : Verdict). some (checked v)) (check-relayed b m n q ∙ again)
 

@@ -151,7 +151,7 @@ module _ (a b : Book) (sa : Sound a) (sb : Sound b) (id : ℕ) (w : OnlyOthersDi
   carries i s e = (s, e, alike s s same)
 
   put-in : (p : ℕ) → p < length run → ((i : ℕ) → i < length run → i ≢ p)
-      → (t : Step) × (getElem? run p ≡ some t) × ((c : Channel) → holds c (bookAfter (walk .before b run p) t) ≡ holds c (walk .before b run p))
+      → (t : Step) × (getElem? run p ≡ some t) × ((c : Channel) → holds c (bookAfter (walk .bookAt b run p) t) ≡ holds c (walk .bookAt b run p))
   put-in p l f = absurd (f p l refl)
 
   its-received : (k : ℕ) → rowOf a id ≡ some k → holds (receives k) a ≡ holds (receives k) b

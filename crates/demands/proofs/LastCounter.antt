@@ -10,7 +10,7 @@ use Rattle.dhcp_message.specs.declared.Auth.{Auth}
 use Rattle.dhcp_message.specs.declared.Form.the-variants.{Full}
 use Rattle.dhcp_message.proofs.Seals.{seal-laws}
 use Rattle.delayed_auth.specs.Seal.{counterMost}
-use Rattle.demands.specs.Demand3.{check, before}
+use Rattle.demands.specs.Demand3.{check, bookAt}
 use Rattle.demands.specs.LastCounter.{LastCounter}
 use Rattle.demands.proofs.Stages.{never, accepted-accepts}
 use Rattle.demands.proofs.Runs.{lt-at}
@@ -30,5 +30,5 @@ counter-fits m c id mac h e = on (checkedOf m) refl e
 
 pub last-counter : LastCounter
 last-counter b s run i j m n k c l e f g h a =
-    let x = accepted-accepts (before b run j) n k c (sound-at b s run j) (accepted-there b s run j n k c g a) in
+    let x = accepted-accepts (bookAt b run j) n k c (sound-at b s run j) (accepted-there b s run j n k c g a) in
     omega (arith, x .above, held-after b s run i j m k counterMost l e f (lt-at run j (check n) g), counter-fits n c (x .id) (x .mac) h (x .form))

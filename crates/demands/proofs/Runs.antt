@@ -33,40 +33,40 @@ module _ {A : Type 0} where
 pub record Walk {State Step Answer : Type 0} (answerOf : State → Step → Answer) (after : State → Step → State) : Type 0 where
   pub answers : State → List Step → List Answer
   pub ending : State → List Step → State
-  pub before : State → List Step → ℕ → State
+  pub bookAt : State → List Step → ℕ → State
   pub answers-next : (b : State) (s : Step) (l : List Step) → answers b (s ∷ l) ≡ answerOf b s ∷ answers (after b s) l
   pub ending-none : (b : State) → ending b [] ≡ b
   pub ending-next : (b : State) (s : Step) (l : List Step) → ending b (s ∷ l) ≡ ending (after b s) l
-  pub before-none : (b : State) (i : ℕ) → before b [] i ≡ b
-  pub before-first : (b : State) (s : Step) (l : List Step) → before b (s ∷ l) 0 ≡ b
-  pub before-next : (b : State) (s : Step) (l : List Step) (i : ℕ) → before b (s ∷ l) (suc i) ≡ before (after b s) l i
+  pub book-at-none : (b : State) (i : ℕ) → bookAt b [] i ≡ b
+  pub book-at-first : (b : State) (s : Step) (l : List Step) → bookAt b (s ∷ l) 0 ≡ b
+  pub book-at-next : (b : State) (s : Step) (l : List Step) (i : ℕ) → bookAt b (s ∷ l) (suc i) ≡ bookAt (after b s) l i
 
 module _ {State Step Answer : Type 0} {answerOf : State → Step → Answer} {after : State → Step → State} (run : Walk answerOf after) where
   pub answer-at : (b : State) (l : List Step) (i : ℕ) (s : Step) → getElem? l i ≡ some s
-      → getElem? (run .answers b l) i ≡ some (answerOf (run .before b l i) s)
+      → getElem? (run .answers b l) i ≡ some (answerOf (run .bookAt b l i) s)
   answer-at b [] i s e = cc
-  answer-at b (x ∷ l) zero s e = rw (run .answers-next b x l, run .before-first b x l) cc
-  answer-at b (x ∷ l) (suc i) s e = rw (run .answers-next b x l, run .before-next b x l i) (answer-at (after b x) l i s e)
+  answer-at b (x ∷ l) zero s e = rw (run .answers-next b x l, run .book-at-first b x l) cc
+  answer-at b (x ∷ l) (suc i) s e = rw (run .answers-next b x l, run .book-at-next b x l i) (answer-at (after b x) l i s e)
 
-  pub before-zero : (b : State) (l : List Step) → run .before b l 0 ≡ b
-  before-zero b [] = run .before-none b 0
-  before-zero b (x ∷ l) = run .before-first b x l
+  pub book-at-zero : (b : State) (l : List Step) → run .bookAt b l 0 ≡ b
+  book-at-zero b [] = run .book-at-none b 0
+  book-at-zero b (x ∷ l) = run .book-at-first b x l
 
-  pub next-at : (b : State) (l : List Step) (i : ℕ) (s : Step) → getElem? l i ≡ some s → run .before b l (suc i) ≡ after (run .before b l i) s
+  pub next-at : (b : State) (l : List Step) (i : ℕ) (s : Step) → getElem? l i ≡ some s → run .bookAt b l (suc i) ≡ after (run .bookAt b l i) s
   next-at b [] i s e = cc
-  next-at b (x ∷ l) zero s e = rw (run .before-next b x l 0, run .before-first b x l, before-zero (after b x) l) cc
-  next-at b (x ∷ l) (suc i) s e = rw (run .before-next b x l (suc i), run .before-next b x l i) (next-at (after b x) l i s e)
+  next-at b (x ∷ l) zero s e = rw (run .book-at-next b x l 0, run .book-at-first b x l, book-at-zero (after b x) l) cc
+  next-at b (x ∷ l) (suc i) s e = rw (run .book-at-next b x l (suc i), run .book-at-next b x l i) (next-at (after b x) l i s e)
 
-  pub end-at : (b : State) (l : List Step) → run .before b l (length l) ≡ run .ending b l
-  end-at b [] = run .before-none b 0 ∙ sym (run .ending-none b)
-  end-at b (x ∷ l) = rw (run .before-next b x l (length l), run .ending-next b x l) (end-at (after b x) l)
+  pub end-at : (b : State) (l : List Step) → run .bookAt b l (length l) ≡ run .ending b l
+  end-at b [] = run .book-at-none b 0 ∙ sym (run .ending-none b)
+  end-at b (x ∷ l) = rw (run .book-at-next b x l (length l), run .ending-next b x l) (end-at (after b x) l)
 
   -- what every step keeps holds of every state of a run
   pub inv-at : (Inv : State → Type 0) → ((b : State) (s : Step) → Inv b → Inv (after b s)) → (b : State) (l : List Step) (i : ℕ)
-      → Inv b → Inv (run .before b l i)
-  inv-at Inv f b [] i h = rw (run .before-none b i) h
-  inv-at Inv f b (x ∷ l) zero h = rw (run .before-first b x l) h
-  inv-at Inv f b (x ∷ l) (suc i) h = rw (run .before-next b x l i) (inv-at Inv f (after b x) l i (f b x h))
+      → Inv b → Inv (run .bookAt b l i)
+  inv-at Inv f b [] i h = rw (run .book-at-none b i) h
+  inv-at Inv f b (x ∷ l) zero h = rw (run .book-at-first b x l) h
+  inv-at Inv f b (x ∷ l) (suc i) h = rw (run .book-at-next b x l i) (inv-at Inv f (after b x) l i (f b x h))
 
   pub inv-end : (Inv : State → Type 0) → ((b : State) (s : Step) → Inv b → Inv (after b s)) → (b : State) (l : List Step)
       → Inv b → Inv (run .ending b l)
@@ -74,8 +74,8 @@ module _ {State Step Answer : Type 0} {answerOf : State → Step → Answer} {af
 
   -- what no step from i to j breaks
   pub kept-on : (P : State → Type 0) (b : State) (l : List Step) (i j : ℕ) → i ≤ j → j ≤ length l
-      → ((p : ℕ) (s : Step) → i ≤ p → p < j → getElem? l p ≡ some s → P (run .before b l p) → P (after (run .before b l p) s))
-      → P (run .before b l i) → P (run .before b l j)
+      → ((p : ℕ) (s : Step) → i ≤ p → p < j → getElem? l p ≡ some s → P (run .bookAt b l p) → P (after (run .bookAt b l p) s))
+      → P (run .bookAt b l i) → P (run .bookAt b l j)
   kept-on P b l i zero q m h g = let e : i ≡ 0 = omega arith in rw (← e) g
   kept-on P b l i (suc j) q m h g =
       elim (decLe i j) [
@@ -88,9 +88,9 @@ module _ {State Step Answer : Type 0} {answerOf : State → Step → Answer} {af
 
   -- a number that no step from i to j lowers
   pub never-falls : (f : State → ℕ) (b : State) (l : List Step) (i j : ℕ) → i ≤ j → j ≤ length l
-      → ((p : ℕ) (s : Step) → i ≤ p → p < j → getElem? l p ≡ some s → f (run .before b l p) ≤ f (after (run .before b l p) s))
-      → f (run .before b l i) ≤ f (run .before b l j)
-  never-falls f b l i j q m h = kept-on (λ x. f (run .before b l i) ≤ f x) b l i j q m (λ p s x y e g. le-trans g (h p s x y e)) (le-refl _)
+      → ((p : ℕ) (s : Step) → i ≤ p → p < j → getElem? l p ≡ some s → f (run .bookAt b l p) ≤ f (after (run .bookAt b l p) s))
+      → f (run .bookAt b l i) ≤ f (run .bookAt b l j)
+  never-falls f b l i j q m h = kept-on (λ x. f (run .bookAt b l i) ≤ f x) b l i j q m (λ p s x y e g. le-trans g (h p s x y e)) (le-refl _)
 
 -- ---- channels
 
@@ -123,12 +123,12 @@ module _
     (order : (i j : ℕ) (s t : Step) (c : Ch) → getElem? first i ≡ some s → getElem? first j ≡ some t → channel s ≡ some c → channel t ≡ some c
     → i < j → place i < place j)
     (put-in : (p : ℕ) → p < length second → ((i : ℕ) → i < length first → place i ≢ p)
-    → (t : Step) × (getElem? second p ≡ some t) × ((c : Ch) → holds c (after (run .before b second p) t) ≡ holds c (run .before b second p)))
+    → (t : Step) × (getElem? second p ≡ some t) × ((c : Ch) → holds c (after (run .bookAt b second p) t) ≡ holds c (run .bookAt b second p)))
   where
-    good₁ : (i : ℕ) → Inv (run .before a first i)
+    good₁ : (i : ℕ) → Inv (run .bookAt a first i)
     good₁ i = inv-at run Inv (local .kept) a first i good-a
 
-    good₂ : (p : ℕ) → Inv (run .before b second p)
+    good₂ : (p : ℕ) → Inv (run .bookAt b second p)
     good₂ p = inv-at run Inv (local .kept) b second p good-b
 
     module _ (c : Ch) (start : holds c a ≡ holds c b) where
@@ -140,10 +140,10 @@ module _
       on? i = discrete same? (channelAt channel (getElem? first i)) (some c)
 
       fst : ℕ → C c
-      fst i = holds c (run .before a first i)
+      fst i = holds c (run .bookAt a first i)
 
       snd : ℕ → C c
-      snd p = holds c (run .before b second p)
+      snd p = holds c (run .bookAt b second p)
 
       inside : (i : ℕ) → i < length first → On i → place i < length second
       inside i l o =
@@ -166,7 +166,7 @@ module _
 
       begins : fst 0 ≡ snd 0
       unfolding fst snd
-      begins = rw (before-zero run a first, before-zero run b second) start
+      begins = rw (book-at-zero run a first, book-at-zero run b second) start
 
       off₂ : (p : ℕ) → p < length second → ((i : ℕ) → i < length first → On i → place i ≢ p) → snd (suc p) ≡ snd p
       unfolding On snd
@@ -189,7 +189,7 @@ module _
           rw (next-at run a first i (s .0) (s .1), next-at run b second (place i) (t .0) (t .1))
           (local .change (s .0) (t .0) (t .2) c (rw (s .1) at o) _ _ (good₁ i) (good₂ (place i)) e)
 
-      held : (i : ℕ) → i < length first → On i → holds c (run .before a first i) ≡ holds c (run .before b second (place i))
+      held : (i : ℕ) → i < length first → On i → holds c (run .bookAt a first i) ≡ holds c (run .bookAt b second (place i))
       unfolding fst snd
       held = Channel.at (length first) (length second) place On on? fst snd inside inOrder begins off₁ off₂ on
 

@@ -9,7 +9,7 @@ use native.Mathlib.Decide.{ℕ-discrete, decLe, decLt}
 use native.Mathlib.Omega.{arith}
 use lib.ListN.{length, getElem?, length-map}
 use Rattle.demands.specs.Accepts.{Accepts}
-use Rattle.demands.specs.Demand3.{Step, check, before, Carried, same, relayed, OneSecret, checks, seals}
+use Rattle.demands.specs.Demand3.{Step, check, bookAt, Carried, same, relayed, OneSecret, checks, seals}
 use Rattle.demands.specs.Woven.{Item, carries, puts-in, stepIn, runOf, Bound, Woven, rest, next, WovenIsRearranged}
 use Rattle.demands.proofs.Runs.{some-at}
 use Rattle.demands.proofs.Steps.{name-relayed}
@@ -167,6 +167,6 @@ woven-is-rearranged b first items w x =
   where
     -- an item that is no place of a step was put in
     not-carried : (p : ℕ) → ((t : Step) → getElem? items p ≡ some (carries t) → ⊥) → (z : Item) → getElem? items p ≡ some z
-        → (m : List ℕ) × (getElem? (runOf items) p ≡ some (check m)) × ((k c : ℕ) → Accepts (before b (runOf items) p) m k c → ⊥)
+        → (m : List ℕ) × (getElem? (runOf items) p ≡ some (check m)) × ((k c : ℕ) → Accepts (bookAt b (runOf items) p) m k c → ⊥)
     not-carried p g (carries t) e = absurd (g t e)
     not-carried p g (puts-in m) e = (m, at-run items p (puts-in m) e, x p m e)

@@ -26,7 +26,7 @@ use Rattle.delayed_auth.specs.Seal.{counterMost, sealOf, messageAfter, sentAfte
 use Rattle.book_card.specs.Card.{Row, InOrder, cardOf}
 use Rattle.book_card.specs.Numbers.{Bytes as CardBytes}
 use Rattle.book_card.specs.Reading.{readOf, readBook, readNumber}
-use Rattle.book_card.specs.Writing.{rowsOf, writeOf, written, writeNumber}
+use Rattle.book_card.specs.Writing.{rowsOf, writeOf, roomAfter, writeNumber}
 
 -- On one input: the lowest number that applies is given, and none is given otherwise.
 pub record Lowest (AppliesHere : Refusal → Type 0) (number : ℕ) : Type 0 where
@@ -36,7 +36,7 @@ pub record Lowest (AppliesHere : Refusal → Type 0) (number : ℕ) : Type 0 whe
 -- ---- when a number applies
 
 -- a check: the message says counter, id and MAC, and the id has row k
-pub record Found (b : Book) (m : List ℕ) (counter k : ℕ) (mac : List ℕ) : Type 0 where
+pub record Claims (b : Book) (m : List ℕ) (counter k : ℕ) (mac : List ℕ) : Type 0 where
   pub id : ℕ
   pub form : saidOf m ≡ says counter id mac
   pub secret : rowOf b id ≡ some k
@@ -50,8 +50,8 @@ pub data KeyApplies (b : Book) (m : List ℕ) : Refusal → Type 0 where
 -- 1 to 12: those; the counter is not above the row's received one; the MAC differs
 pub data CheckApplies (b : Book) (m : List ℕ) : Refusal → Type 0 where
   by-key : {r : Refusal} → KeyApplies b m r → CheckApplies b m r
-  not-above : (counter k : ℕ) (mac : List ℕ) → Found b m counter k mac → counter ≤ getD (b .received) k 0 → CheckApplies b m Replay
-  differs : (counter k : ℕ) (mac : List ℕ) → Found b m counter k mac → mac ≢ hmac (keyOf b k) (imageOf m) → CheckApplies b m WrongMac
+  not-above : (counter k : ℕ) (mac : List ℕ) → Claims b m counter k mac → counter ≤ getD (b .received) k 0 → CheckApplies b m Replay
+  differs : (counter k : ℕ) (mac : List ℕ) → Claims b m counter k mac → mac ≢ hmac (keyOf b k) (imageOf m) → CheckApplies b m WrongMac
 
 -- 1 to 9, then 10 for the given id, then 13: its row has sent the largest counter
 pub data SealApplies (b : Book) (id : ℕ) (m : List ℕ) : Refusal → Type 0 where
@@ -101,4 +101,4 @@ pub record Demand1 : Type 0 where
   pub card-read : (b : Book) (card : List ℕ) → CardBytes card → Lowest (ReadApplies b card) (readNumber (readOf b card))
   pub card-read-keeps : (b : Book) (card : List ℕ) → readNumber (readOf b card) ≢ done → readBook b card ≡ b
   pub card-write : (b : Book) (room : List ℕ) → Lowest (WriteApplies b room) (writeNumber (writeOf b (length room)))
-  pub card-write-keeps : (b : Book) (room : List ℕ) → writeNumber (writeOf b (length room)) ≢ done → written b room ≡ room
+  pub card-write-keeps : (b : Book) (room : List ℕ) → writeNumber (writeOf b (length room)) ≢ done → roomAfter b room ≡ room

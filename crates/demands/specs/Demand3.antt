@@ -49,10 +49,10 @@ abbrev pub ending : Book → List Step → Book
 ending b [] = b
 ending b (s ∷ ss) = ending (bookAfter b s) ss
 
-abbrev pub before : Book → List Step → ℕ → Book
-before b [] i = b
-before b (s ∷ ss) zero = b
-before b (s ∷ ss) (suc i) = before (bookAfter b s) ss i
+abbrev pub bookAt : Book → List Step → ℕ → Book
+bookAt b [] i = b
+bookAt b (s ∷ ss) zero = b
+bookAt b (s ∷ ss) (suc i) = bookAt (bookAfter b s) ss i
 
 -- ---- the second run
 
@@ -76,7 +76,7 @@ pub record Rearranged (b : Book) (first second : List Step) (place : ℕ → ℕ
   pub order : (i j : ℕ) (s t : Step) → getElem? first i ≡ some s → getElem? first j ≡ some t → OneSecret s t → i < j → place i < place j
   -- every other place holds a check that demand 2 doesn't accept on the book as it is there
   pub put-in : (p : ℕ) → p < length second → ((i : ℕ) → i < length first → place i ≢ p)
-      → (m : List ℕ) × (getElem? second p ≡ some (check m)) × ((k c : ℕ) → Accepts (before b second p) m k c → ⊥)
+      → (m : List ℕ) × (getElem? second p ≡ some (check m)) × ((k c : ℕ) → Accepts (bookAt b second p) m k c → ⊥)
 
 -- every step of the first run gets the same answer in the second, and all counters end the same
 pub record SameRun (b : Book) (first second : List Step) (place : ℕ → ℕ) : Type 0 where

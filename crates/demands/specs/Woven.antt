@@ -9,7 +9,7 @@ use lib.ListN.{getElem?}
 use Rattle.dhcp_message.specs.Said.{named}
 use Rattle.key_book.specs.Book.{Book}
 use Rattle.demands.specs.Accepts.{Accepts}
-use Rattle.demands.specs.Demand3.{Step, check, seal, before, Carried, Rearranged}
+use Rattle.demands.specs.Demand3.{Step, check, seal, bookAt, Carried, Rearranged}
 
 -- what stands in the second run: a step of the first, or a check put in
 pub data Item : Type 0 where
@@ -41,7 +41,7 @@ pub data Woven : List Step → List Item → Type 0 where
 
 -- the checks put in are those that demand 2 doesn't accept on the book as it is there
 abbrev pub NoneAccepted : Book → List Item → Type 0
-NoneAccepted b items = (p : ℕ) (m : List ℕ) → getElem? items p ≡ some (puts-in m) → (k c : ℕ) → Accepts (before b (runOf items) p) m k c → ⊥
+NoneAccepted b items = (p : ℕ) (m : List ℕ) → getElem? items p ≡ some (puts-in m) → (k c : ℕ) → Accepts (bookAt b (runOf items) p) m k c → ⊥
 
 abbrev pub WovenIsRearranged : Type 0
 WovenIsRearranged = (b : Book) (first : List Step) (items : List Item) → Woven first items → NoneAccepted b items → (place : ℕ → ℕ) × Rearranged b first (runOf items) place

@@ -10,7 +10,7 @@ use lib.Seq.{length-take-le, take-at, drop-at}
 use lib.Dec.{leb, eqb}
 use borrow.Author.Tests.{le-leb, ne-eqb, leb-true, leb-false, eqb-true, eqb-false}
 use Rattle.dhcp_message.specs.Bytes.{Bytes}
-use Rattle.dhcp_message.specs.Options.{Token, pad, opt, Parsed, cut, parsed, encode, WellFormed, Reads, body, option, code, front, onto, step, decodeAt, decode, RoundTrips}
+use Rattle.dhcp_message.specs.Options.{Token, pad, opt, Parsed, cut, parsed, encode, WellFormed, Reads, body, option, code, lead, withToken, step, decodeAt, decode, RoundTrips}
 use Rattle.dhcp_message.proofs.Lists.{bytes-right}
 
 -- bytes passed over are dropped
@@ -22,9 +22,9 @@ skip zero (x ∷ xs) = refl
 skip (suc k) (x ∷ xs) = skip k xs
 
 -- one step
-pub decode-cons : (c : ℕ) (xs : List ℕ) → decode (c ∷ xs) ≡ step (λ k. decode (drop k xs)) xs (front c xs)
+pub decode-cons : (c : ℕ) (xs : List ℕ) → decode (c ∷ xs) ≡ step (λ k. decode (drop k xs)) xs (lead c xs)
 unfolding decodeAt
-decode-cons c xs = ap (λ (g : ℕ → Parsed). step g xs (front c xs)) (fun-ext (λ k. skip k xs))
+decode-cons c xs = ap (λ (g : ℕ → Parsed). step g xs (lead c xs)) (fun-ext (λ k. skip k xs))
 
 pub decode-nil : decode [] ≡ cut
 unfolding decodeAt
@@ -64,7 +64,7 @@ codes-well (opt c x ∷ ts) r h b =
 
 pub decode-encode : (ts : List Token) (r : List ℕ) → Codes ts → decode (encode ts ++ 255 ∷ r) ≡ parsed ts r
 decode-encode [] r h = decode-cons 255 r
-decode-encode (pad ∷ ts) r h = decode-cons 0 (encode ts ++ 255 ∷ r) ∙ ap (onto pad) (decode-encode ts r h)
+decode-encode (pad ∷ ts) r h = decode-cons 0 (encode ts ++ 255 ∷ r) ∙ ap (withToken pad) (decode-encode ts r h)
 decode-encode (opt c b ∷ ts) r h =
     let ih = decode-encode ts r (h .2) in
     let n : length b ≤ length (b ++ (encode ts ++ 255 ∷ r)) = simp (length-append) (omega arith) in
@@ -82,7 +82,7 @@ AllRead xs = (k : ℕ) (ts : List Token) (r : List ℕ) → decodeAt k xs ≡ pa
 
 module _ (c : ℕ) (xs : List ℕ) (ts : List Token) (r : List ℕ) (ih : AllRead xs) where
   -- a token, and what was read after it
-  behind : (t : Token) (k : ℕ) (p : Parsed) → decodeAt k xs ≡ p → onto t p ≡ parsed ts r
+  behind : (t : Token) (k : ℕ) (p : Parsed) → decodeAt k xs ≡ p → withToken t p ≡ parsed ts r
       → ((us : List Token) → Read (drop k xs) us r → Read (c ∷ xs) (t ∷ us) r) → Read (c ∷ xs) ts r
   behind t k cut e f g = cut≢ ts r f
   behind t k (parsed us q) e f g =

@@ -13,7 +13,7 @@ use lib.Dec.{leb, eqb}
 use borrow.Author.Tests.{le-leb, lt-leb, leb-true, not-true, not-false}
 use Rattle.dhcp_message.specs.Bytes.{written, zeros}
 use Rattle.dhcp_message.specs.Options.{Token, pad, opt, cut, encode}
-use Rattle.dhcp_message.specs.Message.{count, optionOf, before, offsetOf, onlyPads, isLast}
+use Rattle.dhcp_message.specs.Message.{count, optionOf, tokensBefore, offsetOf, onlyPads, isLast}
 use Rattle.dhcp_message.specs.Said.{formOf}
 use Rattle.dhcp_message.specs.Image.{without, macZero, headWith, headZero, imageIn, imageOf, coverFits, coverBytes, coverSize, coverLeft}
 use Rattle.dhcp_message.specs.declared.Auth.{Auth}
@@ -73,7 +73,7 @@ module _ (m : List ℕ) (ts : List Token) (rest : List ℕ) (p : Passing m ts re
       let w = whole m ts rest p in
       let hs = header-size m ts rest p in
       let lw : length m ≡ length (take 240 m) + (length (encode ts) + (1 + length rest)) = ap length w ∙ length-append (take 240 m) _ ∙ ap (λ (k : ℕ). length (take 240 m) + k) (length-append (encode ts) (255 ∷ rest) ∙ omega arith) in
-      let b : length (encode (before 82 ts)) ≡ length (encode ts) = ap (λ (us : List Token). length (encode us)) (before-none 82 ts z) in (
+      let b : length (encode (tokensBefore 82 ts)) ≡ length (encode ts) = ap (λ (us : List Token). length (encode us)) (before-none 82 ts z) in (
         omega arith,
         ap (λ (k : ℕ). take (offsetOf 82 ts) m ++ drop (offsetOf 82 ts + k) m) n
             ∙ ap (λ (k : ℕ). take (offsetOf 82 ts) m ++ drop k m) (add-zero (offsetOf 82 ts))

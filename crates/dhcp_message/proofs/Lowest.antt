@@ -18,7 +18,7 @@ use Rattle.dhcp_message.specs.Bytes.{Bytes, starts}
 use Rattle.dhcp_message.specs.Options.{Token, opt, Parsed, cut, parsed, decode, Reads}
 use Rattle.dhcp_message.specs.Message.{count, optionOf, onlyPads, isLast, Checked, stopped, passed, checkedTokens, checkedParsed, checkedOf, Passed}
 use Rattle.dhcp_message.specs.Said.{refused, says, saidFor, saidBy, placesOf, formSaid, formIn, formOf, formNumber}
-use Rattle.dhcp_message.specs.Numbers.{OnlyPads, Readable, Has, RelayWrong, OtherForm, RequestBytes, Applies, NoneBelow, LowestGiven}
+use Rattle.dhcp_message.specs.Numbers.{OnlyPads, WhereRead, Has, RelayWrong, OtherForm, RequestBytes, Applies, NoneBelow, LowestGiven}
 use Rattle.dhcp_message.specs.declared.Auth.{Auth}
 use Rattle.dhcp_message.specs.declared.Form.{Form}
 use Rattle.dhcp_message.specs.declared.Form.the-variants.{Refused, Full}
@@ -72,10 +72,10 @@ module _ (m : List ℕ) (bytes : Bytes m) (ts : List Token) (rest : List ℕ) (e
   reads : Reads (drop 240 m) ts rest
   reads = decode-reads (drop 240 m) ts rest (bytes-drop 240 m bytes) e
 
-  readable : (P : List Token → Type 0) → P ts → Readable P m
+  readable : (P : List Token → Type 0) → P ts → WhereRead P m
   readable P h = record { tokens = ts; rest = rest; reads = reads; holds = h }
 
-  read-as : (P : List Token → Type 0) → Readable P m → P ts
+  read-as : (P : List Token → Type 0) → WhereRead P m → P ts
   read-as P r =
       let f = sym (reads-decode (drop 240 m) (r .tokens) (r .rest) (r .reads)) ∙ e in
       let t : r .tokens ≡ ts = cc in
@@ -165,10 +165,10 @@ module _ (m : List ℕ) (bytes : Bytes m) (ts : List Token) (rest : List ℕ) (p
   s = split-90 m ts rest p
 
   -- it is the one option 90
-  has : (P : List ℕ → List Token → Type 0) → ((q : List Token) → P (s .body) q) → Readable (Has 90 P) m
+  has : (P : List ℕ → List Token → Type 0) → ((q : List Token) → P (s .body) q) → WhereRead (Has 90 P) m
   has P g = readable m bytes ts rest (p .reads) (Has 90 P) (record { front = s .front; body = s .body; back = s .back; splits = s .tokens; holds = g (s .back) })
 
-  has-not : (P : List ℕ → List Token → Type 0) → ((q : List Token) → P (s .body) q → ⊥) → Readable (Has 90 P) m → ⊥
+  has-not : (P : List ℕ → List Token → Type 0) → ((q : List Token) → P (s .body) q → ⊥) → WhereRead (Has 90 P) m → ⊥
   has-not P g r =
       let w = read-as m bytes ts rest (p .reads) (Has 90 P) r in
       let z = front-none 90 ts (w .front) (w .body) (w .back) (omega (arith, p .one-90)) (w .splits) in
@@ -185,7 +185,7 @@ module _ (m : List ℕ) (bytes : Bytes m) (ts : List Token) (rest : List ℕ) (p
       wrong (inl n) (inr o) = o (starts-true delayed (s .body) d)
       wrong (inr n) (inr o) = o (starts-true delayed (s .body) d)
 
-  other-method : starts delayed (s .body) ≡ false → Readable (Has 90 OtherForm) m
+  other-method : starts delayed (s .body) ≡ false → WhereRead (Has 90 OtherForm) m
   other-method d = has OtherForm (λ q. inr (λ e. let t = starts-taken delayed (s .body) e in let w : _≡_ {A = ℕ} 0 1 = cc in omega arith))
 
   given-for : (u v d : Bool) (counter id : ℕ) (mac : List ℕ) → eqb (length (s .body)) 31 ≡ u → eqb (length (s .body)) 11 ≡ v → starts delayed (s .body) ≡ d

@@ -13,7 +13,7 @@ use Rattle.refusal.specs.declared.Refusal.the-variants.{MessageSize, WrongCooki
 use Rattle.dhcp_message.specs.Layout.{magicCookie}
 use Rattle.dhcp_message.specs.Bytes.{starts}
 use Rattle.dhcp_message.specs.Options.{Token, Parsed, cut, parsed, encode, decode}
-use Rattle.dhcp_message.specs.Message.{count, optionOf, before, offsetOf, isLast, Checked, stopped, passed, checkedTokens, checkedParsed, checkedOf, Passed, Passes27}
+use Rattle.dhcp_message.specs.Message.{count, optionOf, tokensBefore, offsetOf, isLast, Checked, stopped, passed, checkedTokens, checkedParsed, checkedOf, Passed, Passes27}
 use Rattle.dhcp_message.proofs.Lists.{starts-append}
 use Rattle.dhcp_message.proofs.Decoding.{Codes, decode-encode, encode-decode}
 use Rattle.dhcp_message.proofs.Tokens.{once, Split, split, encode-append, option-there, before-there}
@@ -142,7 +142,7 @@ module _ (m : List ℕ) (ts : List Token) (rest : List ℕ) (p : Passing m ts re
     pub front-size : length (take 240 m ++ encode (s .front)) ≡ offsetOf c ts
     front-size =
         length-append (take 240 m) (encode (s .front))
-        ∙ ap₂ (λ (n : ℕ) (us : List Token). n + length (encode us)) header-size (sym (before-there c (s .front) (s .body) (s .back) (s .none-front)) ∙ ap (before c) (sym (s .tokens)))
+        ∙ ap₂ (λ (n : ℕ) (us : List Token). n + length (encode us)) header-size (sym (before-there c (s .front) (s .body) (s .back) (s .none-front)) ∙ ap (tokensBefore c) (sym (s .tokens)))
 
     pub option-is : optionOf c ts ≡ c ∷ length (s .body) ∷ s .body
     option-is = ap (optionOf c) (s .tokens) ∙ option-there c (s .front) (s .body) (s .back) (s .none-front)

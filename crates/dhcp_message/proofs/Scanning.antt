@@ -15,13 +15,13 @@ use borrow.Author.Tests.{le-leb, lt-leb, ne-eqb, eq-eqb, leb-true, lt-ltb, le-lt
 use Rattle.refusal.specs.declared.Refusal.the-variants.{MessageSize, WrongCookie, BrokenOptions, NoAuthentication, RepeatedAuthentication, RelayInformation}
 use Rattle.dhcp_message.specs.Layout.{magicCookie}
 use Rattle.dhcp_message.specs.Bytes.{starts}
-use Rattle.dhcp_message.specs.Options.{Token, pad, opt, Parsed, cut, parsed, encode, body, option, code, onto, step, decode}
-use Rattle.dhcp_message.specs.Message.{count, optionOf, before, onlyPads, isLast, stopped, passed, checkedTokens, checkedParsed, checkedOf}
+use Rattle.dhcp_message.specs.Options.{Token, pad, opt, Parsed, cut, parsed, encode, body, option, code, withToken, step, decode}
+use Rattle.dhcp_message.specs.Message.{count, optionOf, tokensBefore, onlyPads, isLast, stopped, passed, checkedTokens, checkedParsed, checkedOf}
 use Rattle.dhcp_message.specs.Said.{placesOf}
-use Rattle.dhcp_message.specs.Scan.{frontOf, hereOf, hereAt, seen90, seen82, seenOther, seenOf, scanFrom, scanParsed, nothingFound, scanOf, judgeOf, shapeIn, shapeOf}
+use Rattle.dhcp_message.specs.Scan.{leadOf, hereOf, hereAt, seen90, seen82, seenOther, seenOf, scanFrom, scanParsed, emptyTally, scanOf, shapeFound, shapeIn, shapeOf}
 use Rattle.dhcp_message.specs.declared.Here.{Here}
 use Rattle.dhcp_message.specs.declared.Here.the-variants.{Cut as HCut, End as HEnd, Pad as HPad, Opt as HOpt}
-use Rattle.dhcp_message.specs.declared.Found.{Found}
+use Rattle.dhcp_message.specs.declared.Tally.{Tally}
 use Rattle.dhcp_message.specs.declared.Scan.{Scan}
 use Rattle.dhcp_message.specs.declared.Scan.the-variants.{Cut as SCut, Whole as SWhole}
 use Rattle.dhcp_message.specs.declared.Places.{Places}
@@ -69,54 +69,54 @@ module _ (s : List ℕ) (at : ℕ) where
       rw (drop-cons s at 0 h₀, ne-eqb _ _ z, ne-eqb _ _ e, drop-cons s (suc at) 0 h₁, le-leb _ _ l₁, length-take-le _ _ l₁, add-one)
 
 -- a scan that goes on by what stands in front
-abbrev onFront : List ℕ → Found → ℕ → Here → Scan
-onFront xs f at HCut = SCut
-onFront xs f at HEnd = SWhole f at
-onFront xs f at HPad = scanParsed f (at + 1) (decode (drop 1 xs))
-onFront xs f at (HOpt c n) = scanParsed (seenOf f c at n) (at + n) (decode (drop n xs))
+abbrev onLead : List ℕ → Tally → ℕ → Here → Scan
+onLead xs f at HCut = SCut
+onLead xs f at HEnd = SWhole f at
+onLead xs f at HPad = scanParsed f (at + 1) (decode (drop 1 xs))
+onLead xs f at (HOpt c n) = scanParsed (seenOf f c at n) (at + n) (decode (drop n xs))
 
-module _ (f : Found) (at : ℕ) where
-  scan-pad : (p : Parsed) → scanParsed f at (onto pad p) ≡ scanParsed f (at + 1) p
+module _ (f : Tally) (at : ℕ) where
+  scan-pad : (p : Parsed) → scanParsed f at (withToken pad p) ≡ scanParsed f (at + 1) p
   scan-pad cut = refl
   scan-pad (parsed ts r) = refl
 
-  scan-opt : (c : ℕ) (b : List ℕ) (p : Parsed) → scanParsed f at (onto (opt c b) p) ≡ scanParsed (seenOf f c at (2 + length b)) (at + (2 + length b)) p
+  scan-opt : (c : ℕ) (b : List ℕ) (p : Parsed) → scanParsed f at (withToken (opt c b) p) ≡ scanParsed (seenOf f c at (2 + length b)) (at + (2 + length b)) p
   scan-opt c b cut = refl
   scan-opt c b (parsed ts r) = refl
 
   module _ (c : ℕ) where
     on-body : (n : ℕ) (ys : List ℕ) (t : Bool) → leb n (length ys) ≡ t
-        → scanParsed f at (step (λ k. decode (drop k (n ∷ ys))) (n ∷ ys) (body c ys n t)) ≡ onFront (c ∷ n ∷ ys) f at (hereOf (body c ys n t))
+        → scanParsed f at (step (λ k. decode (drop k (n ∷ ys))) (n ∷ ys) (body c ys n t)) ≡ onLead (c ∷ n ∷ ys) f at (hereOf (body c ys n t))
     on-body n ys false l = refl
     on-body n ys true l =
         let e : 2 + n ≡ suc (suc n) = omega arith in
         scan-opt c (take n ys) (decode (drop n ys)) ∙ rw (length-take-le n ys (leb-true _ _ l), e)
 
-    on-option : (xs : List ℕ) → scanParsed f at (step (λ k. decode (drop k xs)) xs (option c xs)) ≡ onFront (c ∷ xs) f at (hereOf (option c xs))
+    on-option : (xs : List ℕ) → scanParsed f at (step (λ k. decode (drop k xs)) xs (option c xs)) ≡ onLead (c ∷ xs) f at (hereOf (option c xs))
     on-option [] = refl
     on-option (n ∷ ys) = on-body n ys (leb n (length ys)) refl
 
-    on-code : (xs : List ℕ) (z e : Bool) → scanParsed f at (step (λ k. decode (drop k xs)) xs (code c xs z e)) ≡ onFront (c ∷ xs) f at (hereOf (code c xs z e))
+    on-code : (xs : List ℕ) (z e : Bool) → scanParsed f at (step (λ k. decode (drop k xs)) xs (code c xs z e)) ≡ onLead (c ∷ xs) f at (hereOf (code c xs z e))
     on-code xs true e = scan-pad (decode xs)
     on-code xs false true = refl
     on-code xs false false = on-option xs
 
-  on-front : (xs : List ℕ) → scanParsed f at (decode xs) ≡ onFront xs f at (hereOf (frontOf xs))
-  on-front [] = rw decode-nil
-  on-front (c ∷ xs) = ap (scanParsed f at) (decode-cons c xs) ∙ on-code c xs (eqb c 0) (eqb c 255)
+  on-lead : (xs : List ℕ) → scanParsed f at (decode xs) ≡ onLead xs f at (hereOf (leadOf xs))
+  on-lead [] = rw decode-nil
+  on-lead (c ∷ xs) = ap (scanParsed f at) (decode-cons c xs) ∙ on-code c xs (eqb c 0) (eqb c 255)
 
 -- the same at an offset of a message
-abbrev pub onHere : List ℕ → Found → ℕ → Here → Scan
+abbrev pub onHere : List ℕ → Tally → ℕ → Here → Scan
 onHere m f at HCut = SCut
 onHere m f at HEnd = SWhole f at
 onHere m f at HPad = scanParsed f (at + 1) (decode (drop (at + 1) m))
 onHere m f at (HOpt c n) = scanParsed (seenOf f c at n) (at + n) (decode (drop (at + n) m))
 
-pub on-here : (m : List ℕ) (f : Found) (at : ℕ) (h : Here) → h ≡ hereAt m at → scanParsed f at (decode (drop at m)) ≡ onHere m f at h
+pub on-here : (m : List ℕ) (f : Tally) (at : ℕ) (h : Here) → h ≡ hereAt m at → scanParsed f at (decode (drop at m)) ≡ onHere m f at h
 unfolding hereAt
-on-here m f at h e = on-front f at (drop at m) ∙ ap (onFront (drop at m) f at) (sym e) ∙ moved h
+on-here m f at h e = on-lead f at (drop at m) ∙ ap (onLead (drop at m) f at) (sym e) ∙ moved h
   where
-    moved : (h : Here) → onFront (drop at m) f at h ≡ onHere m f at h
+    moved : (h : Here) → onLead (drop at m) f at h ≡ onHere m f at h
     moved HCut = refl
     moved HEnd = refl
     moved HPad = rw (drop-drop)
@@ -141,13 +141,13 @@ within-code c xs false true = omega arith
 within-code c [] false false = tt
 within-code c (n ∷ ys) false false = within-body c n ys (leb n (length ys)) refl
 
-within-front : (xs : List ℕ) → Within (length xs) (hereOf (frontOf xs))
-within-front [] = tt
-within-front (c ∷ xs) = within-code c xs (eqb c 0) (eqb c 255)
+within-lead : (xs : List ℕ) → Within (length xs) (hereOf (leadOf xs))
+within-lead [] = tt
+within-lead (c ∷ xs) = within-code c xs (eqb c 0) (eqb c 255)
 
 within : (m : List ℕ) (at : ℕ) (h : Here) → h ≡ hereAt m at → Within (length m - at) h
 unfolding hereAt
-within m at h e = rw (e, ← length-drop at m) (within-front (drop at m))
+within m at h e = rw (e, ← length-drop at m) (within-lead (drop at m))
 
 pub pad-fits : (m : List ℕ) (at : ℕ) → HPad ≡ hereAt m at → at + 1 ≤ length m
 pad-fits m at e = let w : 1 ≤ length m - at = within m at HPad e in omega arith
@@ -161,7 +161,7 @@ opt-fits m at c n e =
 
 -- ---- one option more
 
-module _ (f : Found) (c at n : ℕ) where
+module _ (f : Tally) (c at n : ℕ) where
   pub seen-auth : c ≡ 90 → seen90 f at ≡ seenOf f c at n
   unfolding seenOf
   seen-auth h = rw (eq-eqb _ _ h)
@@ -184,13 +184,13 @@ module _ (f : Found) (c at n : ℕ) where
       by false false = omega arith
 
 -- the invariant of the scan: what is still to be scanned, begun with what was found, gives the whole answer; and a turn
-abbrev pub Head : List ℕ → Found → ℕ → Type 0
+abbrev pub Head : List ℕ → Tally → ℕ → Type 0
 Head m f at = (scanParsed f at (decode (drop at m)) ≡ scanOf m) × ((at ≤ 240 + length m) × ((f .n90 ≤ at) × (f .n82 ≤ at)))
 
-pub turn-pad : (m : List ℕ) (f : Found) (at : ℕ) → Head m f at → HPad ≡ hereAt m at → Head m f (at + 1)
+pub turn-pad : (m : List ℕ) (f : Tally) (at : ℕ) → Head m f at → HPad ≡ hereAt m at → Head m f (at + 1)
 turn-pad m f at h e = let l = pad-fits m at e in (sym (on-here m f at HPad e) ∙ h .0, omega arith)
 
-pub turn-opt : (m : List ℕ) (f g : Found) (at c n : ℕ) → Head m f at → HOpt c n ≡ hereAt m at → g ≡ seenOf f c at n → Head m g (at + n)
+pub turn-opt : (m : List ℕ) (f g : Tally) (at c n : ℕ) → Head m f at → HOpt c n ≡ hereAt m at → g ≡ seenOf f c at n → Head m g (at + n)
 turn-opt m f g at c n h e eg =
     let l = opt-fits m at c n e in
     let s = seen-most f c at n in
@@ -214,7 +214,7 @@ lastCode d [] = d
 lastCode d (pad ∷ ts) = lastCode d ts
 lastCode d (opt e b ∷ ts) = lastCode e ts
 
-abbrev resume : Found → ℕ → List Token → Found
+abbrev resume : Tally → ℕ → List Token → Tally
 resume f at ts = record {
   n90 = f .n90 + count 90 ts;
   at90 = place 90 at (f .at90) ts;
@@ -224,7 +224,7 @@ resume f at ts = record {
   last = lastCode (f .last) ts;
 }
 
-module _ (f : Found) (c at : ℕ) (b : List ℕ) (ts : List Token) where
+module _ (f : Tally) (c at : ℕ) (b : List ℕ) (ts : List Token) where
   one-more : (x y : Bool) → eqb c 90 ≡ x → eqb c 82 ≡ y → resume (seenOf f c at (2 + length b)) (at + (2 + length b)) ts ≡ resume f at (opt c b ∷ ts)
   unfolding seenOf
   one-more true true hx hy = absurd (omega (arith, eqb-true c 90 hx, eqb-true c 82 hy))
@@ -253,7 +253,7 @@ module _ (f : Found) (c at : ℕ) (b : List ℕ) (ts : List Token) where
     last = lastCode c ts;
   })
 
-scan-is : (ts : List Token) (f : Found) (at : ℕ) → scanFrom f at ts ≡ SWhole (resume f at ts) (at + length (encode ts))
+scan-is : (ts : List Token) (f : Tally) (at : ℕ) → scanFrom f at ts ≡ SWhole (resume f at ts) (at + length (encode ts))
 scan-is [] f at = ap₂ SWhole (λ i. record {
   n90 = sym (add-zero (f .n90)) i;
   at90 = f .at90;
@@ -299,16 +299,17 @@ module _ (c : ℕ) where
   rest-count true n e = omega arith
   rest-count false n e = omega arith
 
-  place-once : (ts : List Token) (at d : ℕ) → count c ts ≡ 1 → place c at d ts ≡ at + length (encode (before c ts))
+  place-once : (ts : List Token) (at d : ℕ) → count c ts ≡ 1 → place c at d ts ≡ at + length (encode (tokensBefore c ts))
   place-once [] at d z = absurd (omega arith)
   place-once (pad ∷ ts) at d z = place-once ts (at + 1) d z ∙ omega arith
   place-once (opt e b ∷ ts) at d z = by (eqb e c) (rest-count (eqb e c) (count c ts) z) (place-once ts (at + (2 + length b)) d)
     where
-      by : (x : Bool) → count c ts ≡ cond x 0 1 → (count c ts ≡ 1 → place c (at + (2 + length b)) d ts ≡ at + (2 + length b) + length (encode (before c ts)))
-          → place c (at + (2 + length b)) (cond x at d) ts ≡ at + length (encode (cond x [] (opt e b ∷ before c ts)))
+      by : (x : Bool) → count c ts ≡ cond x 0 1
+          → (count c ts ≡ 1 → place c (at + (2 + length b)) d ts ≡ at + (2 + length b) + length (encode (tokensBefore c ts)))
+          → place c (at + (2 + length b)) (cond x at d) ts ≡ at + length (encode (cond x [] (opt e b ∷ tokensBefore c ts)))
       by true n ih = place-none ts (at + (2 + length b)) at n ∙ sym (add-zero at)
       by false n ih =
-          let l = length-append b (encode (before c ts)) in
+          let l = length-append b (encode (tokensBefore c ts)) in
           ih n ∙ omega arith
 
   size-once : (ts : List Token) (d : ℕ) → count c ts ≡ 1 → size c d ts ≡ length (optionOf c ts)
@@ -333,37 +334,37 @@ module _ (c : ℕ) where
 
 -- ---- checks 5 to 7
 
-module _ (f : Found) (e : ℕ) where
-  pub judge-5 : f .n90 ≡ 0 → SRefused NoAuthentication ≡ judgeOf f e
-  unfolding judgeOf
-  judge-5 h = rw (eq-eqb _ _ h)
+module _ (f : Tally) (e : ℕ) where
+  pub found-5 : f .n90 ≡ 0 → SRefused NoAuthentication ≡ shapeFound f e
+  unfolding shapeFound
+  found-5 h = rw (eq-eqb _ _ h)
 
   module _ (h₀ : f .n90 ≢ 0) where
-    pub judge-6 : 1 < f .n90 → SRefused RepeatedAuthentication ≡ judgeOf f e
-    unfolding judgeOf
-    judge-6 h = rw (ne-eqb _ _ h₀, lt-ltb _ _ h)
+    pub found-6 : 1 < f .n90 → SRefused RepeatedAuthentication ≡ shapeFound f e
+    unfolding shapeFound
+    found-6 h = rw (ne-eqb _ _ h₀, lt-ltb _ _ h)
 
     module _ (h₁ : f .n90 ≤ 1) where
-      pub judge-plain : f .n82 ≡ 0 → SPassed (record { at = f .at90; cut = e; gap = 0 }) ≡ judgeOf f e
-      unfolding judgeOf
-      judge-plain h = rw (ne-eqb _ _ h₀, le-ltb _ _ h₁, eq-eqb _ _ h)
+      pub found-plain : f .n82 ≡ 0 → SPassed (record { at = f .at90; cut = e; gap = 0 }) ≡ shapeFound f e
+      unfolding shapeFound
+      found-plain h = rw (ne-eqb _ _ h₀, le-ltb _ _ h₁, eq-eqb _ _ h)
 
       module _ (h₂ : f .n82 ≢ 0) where
-        pub judge-7 : 1 < f .n82 → SRefused RelayInformation ≡ judgeOf f e
-        unfolding judgeOf
-        judge-7 h = rw (ne-eqb _ _ h₀, le-ltb _ _ h₁, ne-eqb _ _ h₂, lt-ltb _ _ h)
+        pub found-7 : 1 < f .n82 → SRefused RelayInformation ≡ shapeFound f e
+        unfolding shapeFound
+        found-7 h = rw (ne-eqb _ _ h₀, le-ltb _ _ h₁, ne-eqb _ _ h₂, lt-ltb _ _ h)
 
-        pub judge-last : f .n82 ≤ 1 → f .last ≡ 82 → SPassed (record { at = f .at90; cut = f .at82; gap = f .size82 }) ≡ judgeOf f e
-        unfolding judgeOf
-        judge-last h l = rw (ne-eqb _ _ h₀, le-ltb _ _ h₁, ne-eqb _ _ h₂, le-ltb _ _ h, eq-eqb _ _ l)
+        pub found-last : f .n82 ≤ 1 → f .last ≡ 82 → SPassed (record { at = f .at90; cut = f .at82; gap = f .size82 }) ≡ shapeFound f e
+        unfolding shapeFound
+        found-last h l = rw (ne-eqb _ _ h₀, le-ltb _ _ h₁, ne-eqb _ _ h₂, le-ltb _ _ h, eq-eqb _ _ l)
 
-        pub judge-late : f .n82 ≤ 1 → f .last ≢ 82 → SRefused RelayInformation ≡ judgeOf f e
-        unfolding judgeOf
-        judge-late h l = rw (ne-eqb _ _ h₀, le-ltb _ _ h₁, ne-eqb _ _ h₂, le-ltb _ _ h, ne-eqb _ _ l)
+        pub found-late : f .n82 ≤ 1 → f .last ≢ 82 → SRefused RelayInformation ≡ shapeFound f e
+        unfolding shapeFound
+        found-late h l = rw (ne-eqb _ _ h₀, le-ltb _ _ h₁, ne-eqb _ _ h₂, le-ltb _ _ h, ne-eqb _ _ l)
 
 abbrev shapeScan : Scan → Shape
 shapeScan SCut = SRefused BrokenOptions
-shapeScan (SWhole f e) = judgeOf f e
+shapeScan (SWhole f e) = shapeFound f e
 
 module _ (ts : List Token) (rest : List ℕ) where
   abbrev places₀ : Places
@@ -386,19 +387,19 @@ module _ (ts : List Token) (rest : List ℕ) where
     gap = size-once 82 ts 0 r i;
   }
 
-  judge-by : (x y z w l : Bool) → eqb (count 90 ts) 0 ≡ x → ltb 1 (count 90 ts) ≡ y → eqb (count 82 ts) 0 ≡ z → ltb 1 (count 82 ts) ≡ w → isLast 82 ts ≡ l
+  found-by : (x y z w l : Bool) → eqb (count 90 ts) 0 ≡ x → ltb 1 (count 90 ts) ≡ y → eqb (count 82 ts) 0 ≡ z → ltb 1 (count 82 ts) ≡ w → isLast 82 ts ≡ l
       → cond x (SRefused NoAuthentication) (cond y (SRefused RepeatedAuthentication) (cond z (SPassed places₀) (cond w (SRefused RelayInformation) (cond (eqb (lastCode 0 ts) 82) (SPassed places₁) (SRefused RelayInformation)))))
       ≡ shapeIn (cond x (stopped NoAuthentication) (cond y (stopped RepeatedAuthentication) (cond w (stopped RelayInformation) (cond l (passed ts rest) (stopped RelayInformation)))))
-  judge-by true y z w l hx hy hz hw hl = refl
-  judge-by false true z w l hx hy hz hw hl = refl
-  judge-by false false true true l hx hy hz hw hl = absurd (omega (arith, eqb-true (count 82 ts) 0 hz, ltb-true 1 (count 82 ts) hw))
-  judge-by false false true false false hx hy hz hw hl = let e = last-none 82 ts (eqb-true (count 82 ts) 0 hz) in let z : _≡_ {A = ℕ} 0 1 = cc in absurd (omega arith)
-  judge-by false false true false true hx hy hz hw hl =
+  found-by true y z w l hx hy hz hw hl = refl
+  found-by false true z w l hx hy hz hw hl = refl
+  found-by false false true true l hx hy hz hw hl = absurd (omega (arith, eqb-true (count 82 ts) 0 hz, ltb-true 1 (count 82 ts) hw))
+  found-by false false true false false hx hy hz hw hl = let e = last-none 82 ts (eqb-true (count 82 ts) 0 hz) in let z : _≡_ {A = ℕ} 0 1 = cc in absurd (omega arith)
+  found-by false false true false true hx hy hz hw hl =
       let n = eqb-false (count 90 ts) 0 hx in
       let b = ltb-false 1 (count 90 ts) hy in
       ap SPassed (same-places₀ (once (count 90 ts) n b) (eqb-true (count 82 ts) 0 hz))
-  judge-by false false false true l hx hy hz hw hl = refl
-  judge-by false false false false l hx hy hz hw hl =
+  found-by false false false true l hx hy hz hw hl = refl
+  found-by false false false false l hx hy hz hw hl =
       let a = once (count 90 ts) (eqb-false (count 90 ts) 0 hx) (ltb-false 1 (count 90 ts) hy) in
       let r = once (count 82 ts) (eqb-false (count 82 ts) 0 hz) (ltb-false 1 (count 82 ts) hw) in
       ap (λ (t : Bool). cond t (SPassed places₁) (SRefused RelayInformation)) (code-once 82 ts 0 r ∙ hl) ∙ by l (same-places₁ a r)
@@ -407,13 +408,13 @@ module _ (ts : List Token) (rest : List ℕ) where
       by true e = ap SPassed e
       by false e = refl
 
-  judge-tokens : judgeOf (resume nothingFound 240 ts) (240 + length (encode ts)) ≡ shapeIn (checkedTokens ts rest)
-  unfolding judgeOf checkedTokens
-  judge-tokens = rw (zero-add (count 90 ts), zero-add (count 82 ts)) (judge-by _ _ _ _ _ refl refl refl refl refl)
+  found-tokens : shapeFound (resume emptyTally 240 ts) (240 + length (encode ts)) ≡ shapeIn (checkedTokens ts rest)
+  unfolding shapeFound checkedTokens
+  found-tokens = rw (zero-add (count 90 ts), zero-add (count 82 ts)) (found-by _ _ _ _ _ refl refl refl refl refl)
 
-shape-scan : (p : Parsed) → shapeScan (scanParsed nothingFound 240 p) ≡ shapeIn (checkedParsed p)
+shape-scan : (p : Parsed) → shapeScan (scanParsed emptyTally 240 p) ≡ shapeIn (checkedParsed p)
 shape-scan cut = refl
-shape-scan (parsed ts rest) = ap shapeScan (scan-is ts nothingFound 240) ∙ judge-tokens ts rest
+shape-scan (parsed ts rest) = ap shapeScan (scan-is ts emptyTally 240) ∙ found-tokens ts rest
 
 -- ---- checks 2 to 7, by the tests of `shape_of`
 
@@ -440,5 +441,5 @@ module _ (m : List ℕ) where
         pub shape-cut : SCut ≡ scanOf m → SRefused BrokenOptions ≡ shapeOf m
         shape-cut e = ap shapeScan e ∙ shape-go
 
-        pub shape-whole : (f : Found) (e : ℕ) (s : Shape) → SWhole f e ≡ scanOf m → s ≡ judgeOf f e → s ≡ shapeOf m
+        pub shape-whole : (f : Tally) (e : ℕ) (s : Shape) → SWhole f e ≡ scanOf m → s ≡ shapeFound f e → s ≡ shapeOf m
         shape-whole f e s w j = j ∙ ap shapeScan w ∙ shape-go

@@ -15,7 +15,7 @@ use Rattle.refusal.specs.declared.Refusal.{Refusal}
 use Rattle.dhcp_message.specs.Layout.{delayed}
 use Rattle.dhcp_message.specs.Bytes.{Bytes, written, zeros, starts, be32, be64, bytes32, bytes64}
 use Rattle.dhcp_message.specs.Options.{Token, pad, opt, Parsed, encode}
-use Rattle.dhcp_message.specs.Message.{count, optionOf, before, offsetOf, onlyPads, isLast, Checked, stopped, passed, checkedOf}
+use Rattle.dhcp_message.specs.Message.{count, optionOf, tokensBefore, offsetOf, onlyPads, isLast, Checked, stopped, passed, checkedOf}
 use Rattle.dhcp_message.specs.Said.{Said, refused, says, saidBy, saidIn, saidOf, idOf, named, placesOf, authOf, formSaid, formIn, formOf, formSays, formNames, FormSays}
 use Rattle.dhcp_message.specs.Image.{without, macZero, headZero, imageIn, imageOf, coverFits, coverBytes, coverSize, coverLeft}
 use Rattle.dhcp_message.specs.Seal.{fields, fieldsPut, macPut, sealedWith, withFields, FullForm, Sealed, SealLaws}
@@ -53,19 +53,19 @@ module _ (e : ℕ) (b b′ : List ℕ) (same : length b′ ≡ length b) (q : Li
   codes-swap (pad ∷ p) h = codes-swap p h
   codes-swap (opt d a ∷ p) h = (h .0, h .1, codes-swap p (h .2))
 
-  before-swap : (c : ℕ) (p : List Token) → length (encode (before c (p ++ (opt e b′ ∷ q)))) ≡ length (encode (before c (p ++ (opt e b ∷ q))))
+  before-swap : (c : ℕ) (p : List Token) → length (encode (tokensBefore c (p ++ (opt e b′ ∷ q)))) ≡ length (encode (tokensBefore c (p ++ (opt e b ∷ q))))
   before-swap c [] = by (eqb e c)
     where
-      by : (x : Bool) → length (encode (cond x [] (opt e b′ ∷ before c q))) ≡ length (encode (cond x [] (opt e b ∷ before c q)))
+      by : (x : Bool) → length (encode (cond x [] (opt e b′ ∷ tokensBefore c q))) ≡ length (encode (cond x [] (opt e b ∷ tokensBefore c q)))
       by true = refl
-      by false = let m = length-append b′ (encode (before c q)) in let n = length-append b (encode (before c q)) in omega arith
+      by false = let m = length-append b′ (encode (tokensBefore c q)) in let n = length-append b (encode (tokensBefore c q)) in omega arith
   before-swap c (pad ∷ p) = ap suc (before-swap c p)
   before-swap c (opt d a ∷ p) = by (before-swap c p) (eqb d c)
     where
-      by : length (encode (before c (p ++ (opt e b′ ∷ q)))) ≡ length (encode (before c (p ++ (opt e b ∷ q))))
-          → (x : Bool) → length (encode (cond x [] (opt d a ∷ before c (p ++ (opt e b′ ∷ q))))) ≡ length (encode (cond x [] (opt d a ∷ before c (p ++ (opt e b ∷ q)))))
+      by : length (encode (tokensBefore c (p ++ (opt e b′ ∷ q)))) ≡ length (encode (tokensBefore c (p ++ (opt e b ∷ q))))
+          → (x : Bool) → length (encode (cond x [] (opt d a ∷ tokensBefore c (p ++ (opt e b′ ∷ q))))) ≡ length (encode (cond x [] (opt d a ∷ tokensBefore c (p ++ (opt e b ∷ q)))))
       by ih true = refl
-      by ih false = let m = length-append a (encode (before c (p ++ (opt e b′ ∷ q)))) in let n = length-append a (encode (before c (p ++ (opt e b ∷ q)))) in omega arith
+      by ih false = let m = length-append a (encode (tokensBefore c (p ++ (opt e b′ ∷ q)))) in let n = length-append a (encode (tokensBefore c (p ++ (opt e b ∷ q)))) in omega arith
 
   option-swap : (c : ℕ) → c ≢ e → (p : List Token) → optionOf c (p ++ (opt e b′ ∷ q)) ≡ optionOf c (p ++ (opt e b ∷ q))
   option-swap c n [] = let k : e ≢ c = λ h. n (sym h) in rw (ne-eqb _ _ k)

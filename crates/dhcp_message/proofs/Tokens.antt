@@ -10,7 +10,7 @@ use lib.ListN.{length}
 use lib.Dec.{eqb}
 use borrow.Author.Tests.{ne-eqb, eq-eqb, eqb-true}
 use Rattle.dhcp_message.specs.Options.{Token, pad, opt, encode}
-use Rattle.dhcp_message.specs.Message.{count, optionOf, before, onlyPads, isLast}
+use Rattle.dhcp_message.specs.Message.{count, optionOf, tokensBefore, onlyPads, isLast}
 use Rattle.dhcp_message.specs.Image.{without, bodyZero, macZero}
 use Rattle.dhcp_message.specs.Numbers.{OnlyPads}
 
@@ -58,7 +58,7 @@ module _ (c : ℕ) where
     option-behind (pad ∷ p) z = option-behind p z
     option-behind (opt e b ∷ p) z = let h = no-hit e p (eqb e c) refl z in rw (h .0) (option-behind p (h .1))
 
-    pub before-behind : (p : List Token) → count c p ≡ 0 → before c (p ++ q) ≡ p ++ before c q
+    pub before-behind : (p : List Token) → count c p ≡ 0 → tokensBefore c (p ++ q) ≡ p ++ tokensBefore c q
     before-behind [] z = refl
     before-behind (pad ∷ p) z = ap (λ (us : List Token). pad ∷ us) (before-behind p z)
     before-behind (opt e b ∷ p) z = let h = no-hit e p (eqb e c) refl z in rw (h .0) (ap (λ (us : List Token). opt e b ∷ us) (before-behind p (h .1)))
@@ -73,8 +73,8 @@ module _ (c : ℕ) where
     pub option-none : optionOf c ts ≡ []
     option-none = ap (optionOf c) (sym (nil-right ts)) ∙ option-behind [] ts z
 
-    pub before-none : before c ts ≡ ts
-    before-none = ap (before c) (sym (nil-right ts)) ∙ before-behind [] ts z ∙ nil-right ts
+    pub before-none : tokensBefore c ts ≡ ts
+    before-none = ap (tokensBefore c) (sym (nil-right ts)) ∙ before-behind [] ts z ∙ nil-right ts
 
     pub last-none : isLast c ts ≡ true
     last-none = ap (isLast c) (sym (nil-right ts)) ∙ last-behind [] ts z
@@ -84,7 +84,7 @@ module _ (c : ℕ) where
     pub option-there : optionOf c (p ++ (opt c b ∷ q)) ≡ c ∷ length b ∷ b
     option-there = option-behind (opt c b ∷ q) p z ∙ rw (eq-eqb c c refl)
 
-    pub before-there : before c (p ++ (opt c b ∷ q)) ≡ p
+    pub before-there : tokensBefore c (p ++ (opt c b ∷ q)) ≡ p
     before-there = before-behind (opt c b ∷ q) p z ∙ rw (eq-eqb c c refl) (nil-right p)
 
     pub last-there : isLast c (p ++ (opt c b ∷ q)) ≡ onlyPads q

@@ -24,14 +24,14 @@ optionOf c (pad ∷ ts) = optionOf c ts
 optionOf c (opt e body ∷ ts) = cond (eqb e c) (e ∷ length body ∷ body) (optionOf c ts)
 
 -- the tokens before it; all of them where there is no such option
-abbrev pub before : ℕ → List Token → List Token
-before c [] = []
-before c (pad ∷ ts) = pad ∷ before c ts
-before c (opt e body ∷ ts) = cond (eqb e c) [] (opt e body ∷ before c ts)
+abbrev pub tokensBefore : ℕ → List Token → List Token
+tokensBefore c [] = []
+tokensBefore c (pad ∷ ts) = pad ∷ tokensBefore c ts
+tokensBefore c (opt e body ∷ ts) = cond (eqb e c) [] (opt e body ∷ tokensBefore c ts)
 
 -- its offset in the message; that of End where there is no such option
 abbrev pub offsetOf : ℕ → List Token → ℕ
-offsetOf c ts = headerSize + length (encode (before c ts))
+offsetOf c ts = headerSize + length (encode (tokensBefore c ts))
 
 abbrev pub onlyPads : List Token → Bool
 onlyPads [] = true

@@ -22,7 +22,7 @@ OnlyPads (pad ∷ ts) = OnlyPads ts
 OnlyPads (opt e body ∷ ts) = ⊥
 
 -- the options can be read, and what they read as has a property
-pub record Readable (P : List Token → Type 0) (m : List ℕ) : Type 0 where
+pub record WhereRead (P : List Token → Type 0) (m : List ℕ) : Type 0 where
   pub tokens : List Token
   pub rest : List ℕ
   pub reads : Reads (drop headerSize m) tokens rest
@@ -37,8 +37,8 @@ pub record Has (c : ℕ) (P : List ℕ → List Token → Type 0) (tokens : List
   pub holds : P body back
 
 -- 4: no well-formed tokens and rest make up the option bytes
-abbrev pub Unreadable : List ℕ → Type 0
-Unreadable m = (tokens : List Token) (rest : List ℕ) → Reads (drop headerSize m) tokens rest → ⊥
+abbrev pub NoReading : List ℕ → Type 0
+NoReading m = (tokens : List Token) (rest : List ℕ) → Reads (drop headerSize m) tokens rest → ⊥
 
 -- 7: more than one option 82, or one that isn't last
 abbrev pub RelayWrong : List Token → Type 0
@@ -57,12 +57,12 @@ abbrev pub Applies : Refusal → List ℕ → Type 0
 Applies UnsoundBook m = ⊥
 Applies MessageSize m = (length m < messageLeast) ⊎ (messageMost < length m)
 Applies WrongCookie m = take (length magicCookie) (drop cookieAt m) ≢ magicCookie
-Applies BrokenOptions m = Unreadable m
-Applies NoAuthentication m = Readable (λ ts. count authCode ts ≡ 0) m
-Applies RepeatedAuthentication m = Readable (λ ts. 1 < count authCode ts) m
-Applies RelayInformation m = Readable RelayWrong m
-Applies OtherAuthentication m = Readable (Has authCode OtherForm) m
-Applies RequestForm m = Readable (Has authCode RequestBytes) m
+Applies BrokenOptions m = NoReading m
+Applies NoAuthentication m = WhereRead (λ ts. count authCode ts ≡ 0) m
+Applies RepeatedAuthentication m = WhereRead (λ ts. 1 < count authCode ts) m
+Applies RelayInformation m = WhereRead RelayWrong m
+Applies OtherAuthentication m = WhereRead (Has authCode OtherForm) m
+Applies RequestForm m = WhereRead (Has authCode RequestBytes) m
 Applies UnknownSecret m = ⊥
 Applies Replay m = ⊥
 Applies WrongMac m = ⊥

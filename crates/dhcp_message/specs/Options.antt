@@ -36,41 +36,41 @@ pub data Parsed : Type 0 where
   parsed : List Token → List ℕ → Parsed
 
 -- what stands in front: nothing whole, End, or a token, which takes so many bytes after its first
-pub data Front : Type 0 where
-  nothing : Front
-  end : Front
-  token : Token → ℕ → Front
+pub data Lead : Type 0 where
+  nothing : Lead
+  end : Lead
+  token : Token → ℕ → Lead
 
-abbrev pub body : ℕ → List ℕ → ℕ → Bool → Front
+abbrev pub body : ℕ → List ℕ → ℕ → Bool → Lead
 body c xs n true = token (opt c (take n xs)) (suc n)
 body c xs n false = nothing
 
-abbrev pub option : ℕ → List ℕ → Front
+abbrev pub option : ℕ → List ℕ → Lead
 option c [] = nothing
 option c (n ∷ xs) = body c xs n (leb n (length xs))
 
-abbrev pub code : ℕ → List ℕ → Bool → Bool → Front
+abbrev pub code : ℕ → List ℕ → Bool → Bool → Lead
 code c xs true e = token pad 0
 code c xs false true = end
 code c xs false false = option c xs
 
 -- by the first byte and those after it
-abbrev pub front : ℕ → List ℕ → Front
-front c xs = code c xs (eqb c padCode) (eqb c endCode)
+abbrev pub lead : ℕ → List ℕ → Lead
+lead c xs = code c xs (eqb c padCode) (eqb c endCode)
 
-abbrev pub onto : Token → Parsed → Parsed
-onto t cut = cut
-onto t (parsed ts rest) = parsed (t ∷ ts) rest
+abbrev pub withToken : Token → Parsed → Parsed
+withToken t cut = cut
+withToken t (parsed ts rest) = parsed (t ∷ ts) rest
 
-abbrev pub step : (ℕ → Parsed) → List ℕ → Front → Parsed
+abbrev pub step : (ℕ → Parsed) → List ℕ → Lead → Parsed
 step go xs nothing = cut
 step go xs end = parsed [] xs
-step go xs (token t k) = onto t (go k)
+step go xs (token t k) = withToken t (go k)
 
 -- reading, once so many bytes are passed over
 unfoldable pub decodeAt : ℕ → List ℕ → Parsed
 decodeAt k [] = cut
-decodeAt zero (c ∷ xs) = step (λ k. decodeAt k xs) xs (front c xs)
+decodeAt zero (c ∷ xs) = step (λ k. decodeAt k xs) xs (lead c xs)
 decodeAt (suc k) (c ∷ xs) = decodeAt k xs
 
 abbrev pub decode : List ℕ → Parsed

@@ -7,23 +7,23 @@ use lib.ListN.{length, drop}
 use lib.Dec.{ltb, eqb}
 use Rattle.refusal.specs.declared.Refusal.the-variants.{NoAuthentication, RepeatedAuthentication, RelayInformation}
 use Rattle.dhcp_message.specs.Layout.{headerSize, relayCode, authCode, optionHead}
-use Rattle.dhcp_message.specs.Options.{Token, pad, opt, Parsed, cut, parsed, Front, nothing, end, token, front, decode}
+use Rattle.dhcp_message.specs.Options.{Token, pad, opt, Parsed, cut, parsed, Lead, nothing, end, token, lead, decode}
 use Rattle.dhcp_message.specs.Message.{Checked, stopped, passed, checkedOf}
 use Rattle.dhcp_message.specs.Said.{placesOf}
 use Rattle.dhcp_message.specs.declared.Here.{Here}
 use Rattle.dhcp_message.specs.declared.Here.the-variants.{Cut as HCut, End as HEnd, Pad as HPad, Opt as HOpt}
-use Rattle.dhcp_message.specs.declared.Found.{Found}
+use Rattle.dhcp_message.specs.declared.Tally.{Tally}
 use Rattle.dhcp_message.specs.declared.Scan.{Scan}
 use Rattle.dhcp_message.specs.declared.Scan.the-variants.{Cut as SCut, Whole as SWhole}
 use Rattle.dhcp_message.specs.declared.Shape.{Shape}
 use Rattle.dhcp_message.specs.declared.Shape.the-variants.{Refused as SRefused, Passed as SPassed}
 
-abbrev pub frontOf : List ℕ → Front
-frontOf [] = nothing
-frontOf (c ∷ xs) = front c xs
+abbrev pub leadOf : List ℕ → Lead
+leadOf [] = nothing
+leadOf (c ∷ xs) = lead c xs
 
 -- an option is told by its code and the bytes that it takes
-abbrev pub hereOf : Front → Here
+abbrev pub hereOf : Lead → Here
 hereOf nothing = HCut
 hereOf end = HEnd
 hereOf (token pad k) = HPad
@@ -31,40 +31,40 @@ hereOf (token (opt c body) k) = HOpt c (optionHead + length body)
 
 -- what stands at an offset
 unfoldable pub hereAt : List ℕ → ℕ → Here
-hereAt m at = hereOf (frontOf (drop at m))
+hereAt m at = hereOf (leadOf (drop at m))
 
-abbrev pub seen90 : Found → ℕ → Found
+abbrev pub seen90 : Tally → ℕ → Tally
 seen90 f at = record { n90 = f .n90 + 1; at90 = at; n82 = f .n82; at82 = f .at82; size82 = f .size82; last = authCode }
 
-abbrev pub seen82 : Found → ℕ → ℕ → Found
+abbrev pub seen82 : Tally → ℕ → ℕ → Tally
 seen82 f at size = record { n90 = f .n90; at90 = f .at90; n82 = f .n82 + 1; at82 = at; size82 = size; last = relayCode }
 
-abbrev pub seenOther : Found → ℕ → Found
+abbrev pub seenOther : Tally → ℕ → Tally
 seenOther f c = record { n90 = f .n90; at90 = f .at90; n82 = f .n82; at82 = f .at82; size82 = f .size82; last = c }
 
 -- what is found after one option more
-unfoldable pub seenOf : Found → ℕ → ℕ → ℕ → Found
+unfoldable pub seenOf : Tally → ℕ → ℕ → ℕ → Tally
 seenOf f c at size = cond (eqb c authCode) (seen90 f at) (cond (eqb c relayCode) (seen82 f at size) (seenOther f c))
 
 -- what is found after tokens that start at an offset, and where they end
-abbrev pub scanFrom : Found → ℕ → List Token → Scan
+abbrev pub scanFrom : Tally → ℕ → List Token → Scan
 scanFrom f at [] = SWhole f at
 scanFrom f at (pad ∷ ts) = scanFrom f (at + 1) ts
 scanFrom f at (opt c body ∷ ts) = scanFrom (seenOf f c at (optionHead + length body)) (at + (optionHead + length body)) ts
 
-abbrev pub scanParsed : Found → ℕ → Parsed → Scan
+abbrev pub scanParsed : Tally → ℕ → Parsed → Scan
 scanParsed f at cut = SCut
 scanParsed f at (parsed ts rest) = scanFrom f at ts
 
-abbrev pub nothingFound : Found
-nothingFound = record { n90 = 0; at90 = 0; n82 = 0; at82 = 0; size82 = 0; last = 0 }
+abbrev pub emptyTally : Tally
+emptyTally = record { n90 = 0; at90 = 0; n82 = 0; at82 = 0; size82 = 0; last = 0 }
 
 unfoldable pub scanOf : List ℕ → Scan
-scanOf m = scanParsed nothingFound headerSize (decode (drop headerSize m))
+scanOf m = scanParsed emptyTally headerSize (decode (drop headerSize m))
 
 -- 5 to 7 by what was found, with End's offset
-unfoldable pub judgeOf : Found → ℕ → Shape
-judgeOf f ends =
+unfoldable pub shapeFound : Tally → ℕ → Shape
+shapeFound f ends =
     cond (eqb (f .n90) 0) (SRefused NoAuthentication)
     (cond (ltb 1 (f .n90)) (SRefused RepeatedAuthentication)
     (cond (eqb (f .n82) 0) (SPassed (record { at = f .at90; cut = ends; gap = 0 }))

@@ -9,7 +9,7 @@ ghost use Rattle.dhcp_message.specs.Layout.{cookieAt, headerSize, magicC
 ghost use Rattle.dhcp_message.specs.Bytes.{written, zeros, starts, be16, be32, be64, bytes32};
 ghost use Rattle.dhcp_message.specs.Said.{saidBy, formSaid, formOf};
 ghost use Rattle.dhcp_message.specs.Image.{headZero, coverFits, coverSize, coverLeft};
-ghost use Rattle.dhcp_message.specs.Scan.{hereAt, seenOf, scanOf, judgeOf, shapeOf};
+ghost use Rattle.dhcp_message.specs.Scan.{hereAt, seenOf, scanOf, shapeFound, shapeOf};
 ghost use Rattle.dhcp_message.specs.Seal.{fieldsPut, macPut};
 
 // The sizes that a message may have.
@@ -106,7 +106,7 @@ enum Here {
 }
 
 // What a scan has found: how many options 90 and 82, where the last of each stands, the bytes that 82 takes, and the last option's code.
-struct Found {
+struct Tally {
     n90: usize,
     at90: usize,
     n82: usize,
@@ -118,7 +118,7 @@ struct Found {
 // What a scan of all options gives: an option passes the message's end or End is missing; or what was found, and End's offset.
 enum Scan {
     Cut,
-    Whole { found: Found, end: usize },
+    Whole { found: Tally, end: usize },
 }
 
 // The offsets of a message that passes 2 to 7, as in `Auth`.
@@ -162,13 +162,13 @@ fn here_at(message: &[u8], at: usize) -> Here
 }
 
 // What is found after one option more.
-fn seen(f: Found, code: u8, at: usize, size: usize) -> Found
+fn seen(f: Tally, code: u8, at: usize, size: usize) -> Tally
     requires { ⌜ f .n90 < 2 ^ 63 ⌝ }
     requires { ⌜ f .n82 < 2 ^ 63 ⌝ }
     ensures { λ r. ⌜ r ≡ seenOf f code at size ⌝ }
 {
     if code == AUTHENTICATION {
-        return Found {
+        return Tally {
             n90: f.n90 + 1,
             at90: at,
             n82: f.n82,
@@ -178,7 +178,7 @@ fn seen(f: Found, code: u8, at: usize, size: usize) -> Found
         };
     }
     if code == RELAY {
-        return Found {
+        return Tally {
             n90: f.n90,
             at90: f.at90,
             n82: f.n82 + 1,
@@ -187,7 +187,7 @@ fn seen(f: Found, code: u8, at: usize, size: usize) -> Found
             last: RELAY,
         };
     }
-    Found {
+    Tally {
         n90: f.n90,
         at90: f.at90,
         n82: f.n82,
@@ -201,7 +201,7 @@ fn seen(f: Found, code: u8, at: usize, size: usize) -> Found
 fn scan_options(message: &[u8]) -> Scan
     ensures { λ r. ⌜ r ≡ scanOf (now (message .entry)) ⌝ }
 {
-    let mut f = Found {
+    let mut f = Tally {
         n90: 0,
         at90: 0,
         n82: 0,
@@ -227,8 +227,8 @@ fn scan_options(message: &[u8]) -> Scan
 }
 
 // Checks 5 to 7.
-fn judged(f: Found, end: usize) -> Shape
-    ensures { λ r. ⌜ r ≡ judgeOf f end ⌝ }
+fn shape_found(f: Tally, end: usize) -> Shape
+    ensures { λ r. ⌜ r ≡ shapeFound f end ⌝ }
 {
     if f.n90 == 0 {
         return Shape::Refused(Refusal::NoAuthentication);
@@ -288,7 +288,7 @@ fn shape_of(message: &[u8]) -> Shape
     let scan = scan_options(message);
     match scan {
         Scan::Cut => Shape::Refused(Refusal::BrokenOptions),
-        Scan::Whole { found, end } => judged(found, end),
+        Scan::Whole { found, end } => shape_found(found, end),
     }
 }
 

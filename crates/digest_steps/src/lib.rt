@@ -1,5 +1,5 @@
 // The digest in progress as C calls it, for the tests alone (tests/compare/tests/digests.rs): each entry puts the state together from what
-// is lent, calls md5's entry, and takes the state apart again. The library's own interface is c_api.
+// is lent, calls md5's entry, and takes the state apart again. The library's own interface is the crate rimemagpie.
 ghost use mathlib.Core.Path.{_≡_};
 ghost use Rattle.md5.specs.Entries.{fresh, feedOf, finishOf};
 ghost use Rattle.digest_steps.specs.State.{stateOf, wordsOf};

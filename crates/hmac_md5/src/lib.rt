@@ -14,8 +14,8 @@ use refusal::Refusal;
 // The longest key that is taken.
 const KEY_MOST: usize = 64;
 
-// The longest message: what a digest takes, less the block that the key fills.
-const MESSAGE_MOST: usize = md5::DIGEST_MOST - md5::BLOCK;
+// The longest text, as RFC 2104 calls the message: what a digest takes, less the block that the key fills.
+const TEXT_MOST: usize = md5::DIGEST_MOST - md5::BLOCK;
 
 // RFC 2104, section 2: the bytes of ipad and opad.
 const INNER: u8 = 0x36;
@@ -65,7 +65,7 @@ pub fn hmac(key: &[u8], message: &[u8]) -> Mac
             mac: [0u8; 16],
         };
     }
-    if MESSAGE_MOST < message.len() {
+    if TEXT_MOST < message.len() {
         return Mac {
             number: refusal::number(Refusal::TooLong),
             mac: [0u8; 16],

@@ -11,10 +11,10 @@ use Rattle.file_verdict.specs.declared.Content.the-variants.{Unreadable, Size}
 use Rattle.file_verdict.specs.declared.Progress.{Progress}
 use Rattle.file_verdict.specs.declared.Progress.the-variants.{Ended, More}
 use Rattle.file_verdict.specs.Files.{afterRead}
-use Rattle.judge.specs.Files.{ReadMeans, Within}
+use Rattle.judge.specs.Files.{ReadMeans, EndSeen}
 
 abbrev Turn : ℕ → ℕ → Progress → Type 0
-Turn have room (Ended content) = Within room content
+Turn have room (Ended content) = EndSeen room content
 Turn have room (More n) = (have < n) × (n ≤ room)
 
 turn : (have room : ℕ) (got : ℤ) → have < room → Turn have room (afterRead have room got)
@@ -40,7 +40,7 @@ module _ (have now room : ℕ) (long : now ≡ room) (progress : Progress) (mean
   answered : Turn have room progress
   answered = rw (meant .1, long) (turn have room (meant .0) h)
 
-  pub turn-ended : (content : Content) → progress ≡ Ended content → Within room content
+  pub turn-ended : (content : Content) → progress ≡ Ended content → EndSeen room content
   turn-ended content m = let t = answered in rw m at t
 
   pub turn-more : (n : ℕ) → progress ≡ More n → (have < n) × (n ≤ room)

@@ -15,9 +15,9 @@ abbrev pub ReadMeans : ℕ → ℕ → Progress → Type 0
 ReadMeans have room progress = (got : ℤ) × (progress ≡ afterRead have room got)
 
 -- what was read is less than the room, so that the file's end was seen
-abbrev pub Within : ℕ → Content → Type 0
-Within room Unreadable = Unit {0}
-Within room (Size n) = n < room
+abbrev pub EndSeen : ℕ → Content → Type 0
+EndSeen room Unreadable = Unit {0}
+EndSeen room (Size n) = n < room
 
 -- The line for this card and what stands in the message's place, which no contract knows: of a read nothing is assumed but how many bytes it says it gave.
 -- A card that is unreadable or malformed fixes the line, whatever the message file is (file_verdict, `LineSays`).

@@ -6,7 +6,7 @@ ghost use mathlib.Core.Path.{_≡_};
 ghost use Prim.Native.Nat.{_+_, _<_};
 ghost use lib.ListN.{length, take};
 ghost use Rattle.file_verdict.specs.Files.{fileMost, fileIn};
-ghost use Rattle.judge.specs.Files.{ReadMeans, Within, CardLine};
+ghost use Rattle.judge.specs.Files.{ReadMeans, EndSeen, CardLine};
 use file_verdict::Content;
 use file_verdict::FILE_MOST;
 use file_verdict::Loaded;
@@ -32,7 +32,7 @@ fn read_more(fd: i32, room: &mut [u8], have: usize) -> Progress
 
 // Reads to the end of an open file. A room that is full when the end has not been seen is too small.
 fn read_open(fd: i32, room: &mut [u8]) -> Content
-    ensures { λ r. ⌜ Within (length (now (room .entry))) r ⌝ }
+    ensures { λ r. ⌜ EndSeen (length (now (room .entry))) r ⌝ }
 {
     let mut have: usize = 0;
     while have < room.len() {
@@ -48,7 +48,7 @@ fn read_open(fd: i32, room: &mut [u8]) -> Content
 // Reads a file of the current folder.
 fn read_file(name: &[u8], room: &mut [u8]) -> Content
     requires { ⌜ length (now room) ≡ fileMost + 1 ⌝ }
-    ensures { λ r. ⌜ Within (length (now (room .entry))) r ⌝ }
+    ensures { λ r. ⌜ EndSeen (length (now (room .entry))) r ⌝ }
 {
     let fd = os::open_read(name);
     if fd < 0 {

@@ -9,7 +9,7 @@ use borrow.Author.Tests.{le-leb, lt-leb}
 use lib.Dec.{leb}
 use lib.ListN.{length, take, drop, length-append}
 use Rattle.verdict_line.specs.Decimal.{decimal}
-use Rattle.verdict_line.specs.Line.{lineMost, acceptedRow, counterWord, refusedWord, unreadableLine, newline, acceptedLine, refusedLine, lineOf, placed, Made, sizeIn, written}
+use Rattle.verdict_line.specs.Line.{lineMost, acceptedRow, counterWord, refusedWord, unreadableLine, newline, acceptedLine, refusedLine, lineOf, placed, Made, sizeIn, outAfter}
 use Rattle.verdict_line.specs.declared.Line.{Line}
 use Rattle.verdict_line.proofs.Digits.{length-word}
 use Rattle.verdict_line.proofs.Places.{Step, next-step, take-placed}
@@ -46,11 +46,11 @@ unreadable-made old new r h = (h .0, omega arith, h .1)
 
 -- what `write_line` promises
 abbrev pub Written : Line → List ℕ → List ℕ → ℕ → Type 0
-Written line old new r = (r ≡ sizeIn line (length old)) × ((new ≡ written line old) × (lineMost ≤ length old → r ≡ length (lineOf line)))
+Written line old new r = (r ≡ sizeIn line (length old)) × ((new ≡ outAfter line old) × (lineMost ≤ length old → r ≡ length (lineOf line)))
 
 -- the line does not fit
 pub no-room : (line : Line) (out : List ℕ) → length (lineOf line) ≤ lineMost → length out < length (lineOf line) → Written line out out 0
-unfolding sizeIn written
+unfolding sizeIn outAfter
 no-room line out f h = let e = lt-leb (length (lineOf line)) (length out) h in (rw e, (rw e, λ m. absurd (omega arith)))
 
 -- the line stands at the front of the room where it was made
@@ -71,7 +71,7 @@ front-placed out s = ap (λ (n : ℕ). s ++ drop n out) (zero-add (length s))
 -- the line fits, and is copied from there
 pub fits-room : (line : Line) (out old made new : List ℕ) (size r : ℕ) → Made old (lineOf line) made size → lineMost ≤ length old → size ≤ length out → Step out 0 (take size made) new r
     → Written line out new r
-unfolding sizeIn written
+unfolding sizeIn outAfter
 fits-room line out old made new size r m room h c =
     let t : take size made ≡ lineOf line = made-take old (lineOf line) made size m room in
     let z : r ≡ length (lineOf line) = c .0 ∙ zero-add _ ∙ ap length t in

@@ -57,5 +57,5 @@ unfoldable pub sizeIn : Line → ℕ → ℕ
 sizeIn line room = cond (leb (length (lineOf line)) room) (length (lineOf line)) 0
 
 -- the room afterwards: the line at its front and the rest as it was, or nothing changed where it does not fit
-unfoldable pub written : Line → List ℕ → List ℕ
-written line out = cond (leb (length (lineOf line)) (length out)) (lineOf line ++ drop (length (lineOf line)) out) out
+unfoldable pub outAfter : Line → List ℕ → List ℕ
+outAfter line out = cond (leb (length (lineOf line)) (length out)) (lineOf line ++ drop (length (lineOf line)) out) out

@@ -7,7 +7,7 @@ ghost use mathlib.Core.Path.{_≡_};
 ghost use Prim.Native.Nat.{_+_, _≤_};
 ghost use lib.ListN.{length};
 ghost use Rattle.verdict_line.specs.Decimal.{decimal};
-ghost use Rattle.verdict_line.specs.Line.{lineMost, acceptedLine, refusedLine, lineOf, placed, Made, sizeIn, written};
+ghost use Rattle.verdict_line.specs.Line.{lineMost, acceptedLine, refusedLine, lineOf, placed, Made, sizeIn, outAfter};
 use refusal::Refusal;
 
 // The bytes of the longest line, with a row and a counter of twenty digits each.
@@ -93,7 +93,7 @@ fn put_line(out: &mut [u8], line: Line) -> usize
 // Where the room is too small it returns 0 and writes nothing; LINE_MOST bytes are enough for every line.
 pub fn write_line(out: &mut [u8], line: Line) -> usize
     ensures size { λ r. ⌜ r ≡ sizeIn line (length (now (out .entry))) ⌝ }
-    ensures content { λ _. ⌜ now (out .exit) ≡ written line (now (out .entry)) ⌝ }
+    ensures content { λ _. ⌜ now (out .exit) ≡ outAfter line (now (out .entry)) ⌝ }
     ensures whole { λ r. ⌜ (lineMost ≤ length (now (out .entry)) → r ≡ length (lineOf line)) ⌝ }
 {
     let mut made = [0u8; LINE_MOST];

@@ -1,4 +1,4 @@
--- The second worked run, computed as in proofs/Example3.antt. No two steps of the first run are bound to one order, so `order` has nothing to keep.
+-- The second worked run, computed as in proofs/Shuffled.antt. No two steps of the first run are bound to one order, so `order` has nothing to keep.
 use mathlib.Core.Path.{_≡_, refl, sym, ap, subst, _∙_}
 use mathlib.Core.Logic.{_≢_}
 use mathlib.Core.Option.{Option, none, some, Option·none-ne-some, Option·some-injective}
@@ -27,7 +27,7 @@ use Rattle.delayed_auth.specs.Check.{sameBytes, judgedRow, judgedSaid, judgedSo
 use Rattle.delayed_auth.specs.Seal.{sealed, unsealed, sealedMessage, sealedRow, sealedForm, sealedSound, sealOf}
 use Rattle.delayed_auth.specs.declared.Sealing.the-variants.{Sealed, Unsealed}
 use Rattle.demands.specs.Accepts.{Accepts}
-use Rattle.demands.specs.Demand3.{Step, check, seal, checked, wrote, answers, ending, before}
+use Rattle.demands.specs.Demand3.{Step, check, seal, checked, wrote, answers, ending, bookAt}
 use Rattle.demands.specs.Demand3.{Carried, same, relayed, OneSecret, checks, seals, Rearranged}
 use Rattle.demands.specs.History.{acceptedIn, sealsIn, names-it, under-it, OnlyOthersDiffer}
 use Rattle.worked_runs.specs.Crossed.{idA, idB, counterA, sentB, book, changedB, authA, authB, relayInfo, otherInfo, plain, behind, short, unnamed, toSeal}
@@ -39,7 +39,7 @@ use Rattle.demands.proofs.Steps.{SameIds, row-kept}
 use Rattle.demands.proofs.Demand2.{demand-2}
 use Rattle.demands.proofs.Demand3.{demand-3, ids-at, sound-at, rises}
 use Rattle.demands.proofs.History.{history}
-use Rattle.worked_runs.proofs.Example3.{relays}
+use Rattle.worked_runs.proofs.Shuffled.{relays}
 
 is-sound : Sound book
 unfolding sound sized ascending keySizes allBelow
@@ -307,15 +307,15 @@ stale-on b w h k c a =
     omega (arith, ap (λ (x : ℕ). getD (b .received) x 0) here, a .above)
 
 -- the received counter of secret A never falls below where it began
-stale-refused : (k c : ℕ) → Accepts (before book second 8) stale k c → ⊥
+stale-refused : (k c : ℕ) → Accepts (bookAt book second 8) stale k c → ⊥
 stale-refused =
     let f : Book → ℕ = λ x. getD (x .received) 0 0 in
-    stale-on (before book second 8) (ids-at book is-sound second 8)
+    stale-on (bookAt book second 8) (ids-at book is-sound second 8)
     (never-falls walk f book second 0 8 (omega arith) (omega arith)
-    (λ p s x y z. rises book is-sound (before book second p) s 0 (sound-at book is-sound second p)))
+    (λ p s x y z. rises book is-sound (bookAt book second p) s 0 (sound-at book is-sound second p)))
 
 puts-in : (p : ℕ) → p < length second → ((i : ℕ) → i < length first → place i ≢ p)
-    → (m : List ℕ) × (getElem? second p ≡ some (check m)) × ((k c : ℕ) → Accepts (before book second p) m k c → ⊥)
+    → (m : List ℕ) × (getElem? second p ≡ some (check m)) × ((k c : ℕ) → Accepts (bookAt book second p) m k c → ⊥)
 puts-in zero l f = (forged, refl, forged-refused)
 puts-in (suc zero) l f = absurd (f 4 (omega arith) refl)
 puts-in (suc (suc zero)) l f = absurd (f 3 (omega arith) refl)

@@ -1,5 +1,5 @@
 pub mod Calls
-pub mod Example3
+pub mod Shuffled
 pub mod Crossed
 pub mod MoreNumbers
 pub mod OtherBooks

@@ -1,4 +1,4 @@
--- `book_card::card_write` meets its contract: each end is one case of `writeOf`, with the room as `written` says (proofs/Writes.antt).
+-- `book_card::card_write` meets its contract: each end is one case of `writeOf`, with the room as `roomAfter` says (proofs/Writes.antt).
 use native.Mathlib.Omega.{arith}
 use denote.Ref.{now}
 use Rattle.key_book.specs.Book.{bookOf}

@@ -27,14 +27,14 @@ enum-told c = search needs
 enum-known-scan : tie.Need-enum-known-scan
 enum-known-scan c = search needs
 
-judged-requires : tie.Need-judged-requires
-judged-requires c κs = search needs
+shape-found-requires : tie.Need-shape-found-requires
+shape-found-requires c κs = search needs
 
 returns-4 : tie.Need-returns-4
 returns-4 c = shape-cut _ (search needs) (search needs) _ (c .before .before .before .before .is-cookie .ensures) (not-false _ (c .before .before .before .if3 .left)) (sym (c .enum-told .given .1) ∙ c .before .before .scan-options .ensures)
 
 returns-5 : tie.Need-returns-5
-returns-5 c = shape-whole _ (search needs) (search needs) _ (c .before .before .before .before .before .before .is-cookie .ensures) (not-false _ (c .before .before .before .before .before .if3 .left)) _ _ _ (sym (c .before .before .scan .given .1) ∙ c .before .before .before .before .scan-options .ensures) (c .judged .ensures)
+returns-5 c = shape-whole _ (search needs) (search needs) _ (c .before .before .before .before .before .before .is-cookie .ensures) (not-false _ (c .before .before .before .before .before .if3 .left)) _ _ _ (sym (c .before .before .scan .given .1) ∙ c .before .before .before .before .scan-options .ensures) (c .shape-found .ensures)
 
 pub shape-of-spec : {M : Type 1} → statement M
 shape-of-spec =
@@ -47,6 +47,6 @@ shape-of-spec =
     scan-options-requires
     enum-told
     enum-known-scan
-    judged-requires
+    shape-found-requires
     returns-4
     returns-5)

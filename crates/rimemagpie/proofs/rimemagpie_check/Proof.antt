@@ -1,11 +1,11 @@
--- `c_api::rimemagpie_check` meets its contract: number and places are read off the verdict, which is `checkOf`.
+-- `rimemagpie::rimemagpie_check` meets its contract: number and places are read off the verdict, which is `checkOf`.
 use mathlib.Core.Path.{sym, ap, _∙_}
 use Rattle.delayed_auth.specs.declared.Verdict.{Verdict}
 use Rattle.delayed_auth.specs.Check.{verdictNumber}
-use Rattle.c_api.specs.Places.{rowPlace, counterPlace}
+use Rattle.rimemagpie.specs.Places.{rowPlace, counterPlace}
 use borrow.Author.Needs.{needs}
-use Rattle.c_api.proofs.rimemagpie_check.Statement.{statement}
-use Rattle.c_api.proofs.rimemagpie_check.Tie as tie
+use Rattle.rimemagpie.proofs.rimemagpie_check.Statement.{statement}
+use Rattle.rimemagpie.proofs.rimemagpie_check.Tie as tie
 
 check-requires : tie.Need-check-requires
 check-requires c κs = search needs

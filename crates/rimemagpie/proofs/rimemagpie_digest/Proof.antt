@@ -1,9 +1,9 @@
--- `c_api::rimemagpie_digest` meets its contract: the two parts of what `md5` gives.
+-- `rimemagpie::rimemagpie_digest` meets its contract: the two parts of what `md5` gives.
 use mathlib.Core.Path.{ap}
 use Rattle.md5.specs.declared.Finished.{Finished}
 use borrow.Author.Needs.{needs}
-use Rattle.c_api.proofs.rimemagpie_digest.Statement.{statement}
-use Rattle.c_api.proofs.rimemagpie_digest.Tie as tie
+use Rattle.rimemagpie.proofs.rimemagpie_digest.Statement.{statement}
+use Rattle.rimemagpie.proofs.rimemagpie_digest.Tie as tie
 
 md5-requires : tie.Need-md5-requires
 md5-requires c κs = search needs

@@ -12,8 +12,8 @@ ghost use Rattle.delayed_auth.specs.Check.{checkOf, receivedAfter, verdictNumbe
 ghost use Rattle.delayed_auth.specs.Key.{keyedOf, keyNumber};
 ghost use Rattle.delayed_auth.specs.Seal.{sealOf, messageAfter, sentAfter, outcomeNumber};
 ghost use Rattle.book_card.specs.Reading.{readOf, readBook, rowsGiven, readNumber};
-ghost use Rattle.book_card.specs.Writing.{writeOf, written, writeNumber};
-ghost use Rattle.c_api.specs.Places.{rowPlace, counterPlace, offsetPlace, sizePlace, sealedPlace, rowsPlace, cardPlace};
+ghost use Rattle.book_card.specs.Writing.{writeOf, roomAfter, writeNumber};
+ghost use Rattle.rimemagpie.specs.Places.{rowPlace, counterPlace, offsetPlace, sizePlace, sealedPlace, rowsPlace, cardPlace};
 use book_card::ReadAnswer;
 use book_card::WriteAnswer;
 use delayed_auth::Keyed;
@@ -168,7 +168,7 @@ pub extern "C" fn rimemagpie_card_write(
     size: &mut u64,
 ) -> u8
     ensures number { λ r. ⌜ r ≡ writeNumber (writeOf (bookOf (now (ids .entry)) (now (lengths .entry)) (now (store .entry)) (now (received .entry)) (now (sent .entry)) rows) (length (now (card .entry)))) ⌝ }
-    ensures room { λ _. ⌜ now (card .exit) ≡ written (bookOf (now (ids .entry)) (now (lengths .entry)) (now (store .entry)) (now (received .entry)) (now (sent .entry)) rows) (now (card .entry)) ⌝ }
+    ensures room { λ _. ⌜ now (card .exit) ≡ roomAfter (bookOf (now (ids .entry)) (now (lengths .entry)) (now (store .entry)) (now (received .entry)) (now (sent .entry)) rows) (now (card .entry)) ⌝ }
     ensures size { λ _. ⌜ now (size .exit) ≡ cardPlace (writeOf (bookOf (now (ids .entry)) (now (lengths .entry)) (now (store .entry)) (now (received .entry)) (now (sent .entry)) rows) (length (now (card .entry)))) (now (size .entry)) ⌝ }
 {
     let answer = book_card::card_write(ids, lengths, store, received, sent, rows, card);

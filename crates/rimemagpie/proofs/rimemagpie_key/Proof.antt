@@ -1,14 +1,14 @@
--- `c_api::rimemagpie_key` meets its contract: number and places are read off the answer, which is `keyedOf`; a named row's slot starts within the store.
+-- `rimemagpie::rimemagpie_key` meets its contract: number and places are read off the answer, which is `keyedOf`; a named row's slot starts within the store.
 use mathlib.Core.Path.{sym, ap, _∙_}
 use lib.ListN.{length}
 use Rattle.key_book.specs.Book.{bookOf}
 use Rattle.delayed_auth.specs.declared.Keyed.{Keyed}
 use Rattle.delayed_auth.specs.Key.{keyNumber}
-use Rattle.c_api.specs.Places.{offsetPlace, sizePlace}
-use Rattle.c_api.proofs.Answers.{slot-within}
+use Rattle.rimemagpie.specs.Places.{offsetPlace, sizePlace}
+use Rattle.rimemagpie.proofs.Answers.{slot-within}
 use borrow.Author.Needs.{needs}
-use Rattle.c_api.proofs.rimemagpie_key.Statement.{statement}
-use Rattle.c_api.proofs.rimemagpie_key.Tie as tie
+use Rattle.rimemagpie.proofs.rimemagpie_key.Statement.{statement}
+use Rattle.rimemagpie.proofs.rimemagpie_key.Tie as tie
 
 named-row-requires : tie.Need-named-row-requires
 named-row-requires c κs = search needs

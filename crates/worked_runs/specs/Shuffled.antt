@@ -1,6 +1,6 @@
 -- A second run of demand 3, worked out: neither `Rearranged` nor acceptance is empty. Two secrets; in the second run their checks have changed
 -- places and gone past the seal, both messages were relayed, one twice and with option 82 added, and a forged check was put in.
--- The MACs are those of an outside implementation of HMAC-MD5. Its one proof is proofs/Example3.antt.
+-- The MACs are those of an outside implementation of HMAC-MD5. Its one proof is proofs/Shuffled.antt.
 use Prim.Native.Nat.{ℕ, zero, suc}
 use mathlib.Core.Path.{_≡_}
 use mathlib.Core.List.{List, [], _∷_, _++_}
@@ -62,7 +62,7 @@ place (suc zero) = 2
 place (suc (suc zero)) = 0
 place (suc (suc (suc i))) = 4
 
-pub record Example3 : Type 0 where
+pub record Shuffled : Type 0 where
   pub is-sound : Sound book
   -- in the first run both checks are accepted, the seal writes counter 4 under id 7, and the message checked again is a replay
   pub first-answers : answers book first ≡ checked (Accepted 0 11) ∷ checked (Accepted 1 20) ∷ wrote (Sealed 4) sealedBytes ∷ checked (Refused Replay) ∷ []

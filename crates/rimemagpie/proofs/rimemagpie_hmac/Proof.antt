@@ -1,9 +1,9 @@
--- `c_api::rimemagpie_hmac` meets its contract: the two parts of what `hmac` gives.
+-- `rimemagpie::rimemagpie_hmac` meets its contract: the two parts of what `hmac` gives.
 use mathlib.Core.Path.{ap}
 use Rattle.hmac_md5.specs.declared.Mac.{Mac}
 use borrow.Author.Needs.{needs}
-use Rattle.c_api.proofs.rimemagpie_hmac.Statement.{statement}
-use Rattle.c_api.proofs.rimemagpie_hmac.Tie as tie
+use Rattle.rimemagpie.proofs.rimemagpie_hmac.Statement.{statement}
+use Rattle.rimemagpie.proofs.rimemagpie_hmac.Tie as tie
 
 hmac-requires : tie.Need-hmac-requires
 hmac-requires c κs = search needs

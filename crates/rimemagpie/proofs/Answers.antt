@@ -16,7 +16,7 @@ use Rattle.delayed_auth.specs.declared.Sealing.the-variants.{Sealed, Unsealed}
 use Rattle.delayed_auth.specs.Key.{keyedOf}
 use Rattle.delayed_auth.specs.Seal.{Outcome, sealed, unsealed, sealingOf, outcomeNumber}
 use Rattle.delayed_auth.proofs.Judging.{key-within}
-use Rattle.c_api.specs.Places.{sealedPlace}
+use Rattle.rimemagpie.specs.Places.{sealedPlace}
 
 -- ---- a seal
 

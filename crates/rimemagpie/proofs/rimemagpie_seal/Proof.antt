@@ -1,11 +1,11 @@
--- `c_api::rimemagpie_seal` meets its contract: number and place are read off the answer, which is that of `sealOf`.
+-- `rimemagpie::rimemagpie_seal` meets its contract: number and place are read off the answer, which is that of `sealOf`.
 use mathlib.Core.Path.{sym, _∙_}
 use Rattle.key_book.specs.Book.{bookOf}
 use Rattle.delayed_auth.specs.Seal.{sealOf}
-use Rattle.c_api.proofs.Answers.{seal-done, seal-refused}
+use Rattle.rimemagpie.proofs.Answers.{seal-done, seal-refused}
 use borrow.Author.Needs.{needs}
-use Rattle.c_api.proofs.rimemagpie_seal.Statement.{statement}
-use Rattle.c_api.proofs.rimemagpie_seal.Tie as tie
+use Rattle.rimemagpie.proofs.rimemagpie_seal.Statement.{statement}
+use Rattle.rimemagpie.proofs.rimemagpie_seal.Tie as tie
 
 seal-requires : tie.Need-seal-requires
 seal-requires c κs = search needs

@@ -13,39 +13,39 @@ use lib.Seq.{drop-drop}
 use Rattle.key_book.specs.Limits.{rowsMost}
 use Rattle.book_card.specs.Numbers.{Bytes}
 use Rattle.book_card.specs.Card.{Row}
-use Rattle.book_card.specs.Reader.{keyAt, closeSize, frontOf, rowFront, End, closed, fault, FrontRows}
-use Rattle.book_card.specs.Reader.{ended, onto, stepFrom, frontFrom, rowsInFront, rowsBy, cardIn, readCard, countedFrom}
+use Rattle.book_card.specs.Reader.{keyAt, closeSize, frontOf, rowFront, CardEnd, closed, fault, FrontRows}
+use Rattle.book_card.specs.Reader.{ended, withRow, stepFrom, frontFrom, rowsInFront, rowsBy, cardIn, readCard, countedFrom}
 use Rattle.book_card.specs.declared.Front.{Front}
 use Rattle.book_card.specs.declared.Front.the-variants.{Broken, Row as RowFront, Close}
-use Rattle.book_card.specs.declared.Judged.the-variants.{Malformed, Rows as Counted}
+use Rattle.book_card.specs.declared.Counted.the-variants.{Malformed, Rows as RowCount}
 use Rattle.book_card.proofs.Little.{bytes-drop}
 use Rattle.book_card.proofs.Shape.{GoodRow, FrontGood, front-good}
 use Rattle.book_card.proofs.Says.{goOn, front-step}
 
 -- so many rows stand before `at`, and reading on from there gives the whole answer
-pub record Judging (card : List ℕ) (at rows low : ℕ) : Type 0 where
+pub record Counting (card : List ℕ) (at rows low : ℕ) : Type 0 where
   pub within : at ≤ length card
   pub few : rows ≤ rowsMost
   pub low-fits : low ≤ 2 ^ 32
   pub rest : countedFrom rows (cardIn (frontFrom (rowsMost - rows) low rows (drop at card))) ≡ countedFrom 0 (readCard card)
 
-pub judging-start : (card : List ℕ) → Judging card 0 0 0
+pub counting-start : (card : List ℕ) → Counting card 0 0 0
 unfolding readCard rowsInFront
-judging-start card = record { within = omega arith; few = omega arith; low-fits = omega arith; rest = refl }
+counting-start card = record { within = omega arith; few = omega arith; low-fits = omega arith; rest = refl }
 
 -- no row more: what is counted is malformed
 no-row-more : (n : ℕ) (s : List ℕ) (t : Bool) → Malformed ≡ countedFrom n (cardIn (cond t (ended fault s) (ended fault s)))
 no-row-more n s true = refl
 no-row-more n s false = refl
 
-counted-onto : (n : ℕ) (r : Row) (f : FrontRows) → countedFrom (n + 1) (cardIn f) ≡ countedFrom n (cardIn (onto r f))
-counted-onto n r f = on (f .ends)
+counted-with-row : (n : ℕ) (r : Row) (f : FrontRows) → countedFrom (n + 1) (cardIn f) ≡ countedFrom n (cardIn (withRow r f))
+counted-with-row n r f = on (f .ends)
   where
-    on : (e : End) → countedFrom (n + 1) (rowsBy (f .rows) e) ≡ countedFrom n (rowsBy (r ∷ f .rows) e)
-    on closed = let e : n + 1 + length (f .rows) ≡ n + suc (length (f .rows)) = omega arith in ap Counted e
+    on : (e : CardEnd) → countedFrom (n + 1) (rowsBy (f .rows) e) ≡ countedFrom n (rowsBy (r ∷ f .rows) e)
+    on closed = let e : n + 1 + length (f .rows) ≡ n + suc (length (f .rows)) = omega arith in ap RowCount e
     on fault = refl
 
-module _ (card : List ℕ) (at rows low : ℕ) (j : Judging card at rows low) where
+module _ (card : List ℕ) (at rows low : ℕ) (j : Counting card at rows low) where
   abbrev rest : List ℕ
   rest = drop at card
 
@@ -54,20 +54,20 @@ module _ (card : List ℕ) (at rows low : ℕ) (j : Judging card at rows low) wh
   on-front f e = ap (λ (x : Front). countedFrom rows (cardIn (stepFrom (goOn (rowsMost - rows) rest) low rows rest x))) e
       ∙ ap (λ (f : FrontRows). countedFrom rows (cardIn f)) (sym (front-step (rowsMost - rows) low rows rest)) ∙ j .rest
 
-  pub judged-broken : Broken ≡ frontOf rest → Malformed ≡ countedFrom 0 (readCard card)
-  judged-broken e = on-front Broken e
+  pub count-broken : Broken ≡ frontOf rest → Malformed ≡ countedFrom 0 (readCard card)
+  count-broken e = on-front Broken e
 
   module _ (m : ℕ) (e : Close m ≡ frontOf rest) where
-    pub judged-longer : length card - at ≢ closeSize → Malformed ≡ countedFrom 0 (readCard card)
-    judged-longer h = rw (length-drop at card, ne-eqb (length card - at) closeSize h) at (on-front (Close m) e)
+    pub count-longer : length card - at ≢ closeSize → Malformed ≡ countedFrom 0 (readCard card)
+    count-longer h = rw (length-drop at card, ne-eqb (length card - at) closeSize h) at (on-front (Close m) e)
 
     module _ (h : length card - at ≡ closeSize) where
-      pub judged-number : m ≢ rows → Malformed ≡ countedFrom 0 (readCard card)
-      judged-number k = rw (length-drop at card, eq-eqb (length card - at) closeSize h, ne-eqb m rows k) at (on-front (Close m) e)
+      pub count-number : m ≢ rows → Malformed ≡ countedFrom 0 (readCard card)
+      count-number k = rw (length-drop at card, eq-eqb (length card - at) closeSize h, ne-eqb m rows k) at (on-front (Close m) e)
 
-      pub judged-rows : m ≡ rows → Counted rows ≡ countedFrom 0 (readCard card)
-      judged-rows k =
-          ap Counted (sym (add-zero rows))
+      pub count-closed : m ≡ rows → RowCount rows ≡ countedFrom 0 (readCard card)
+      count-closed k =
+          ap RowCount (sym (add-zero rows))
           ∙ (rw (length-drop at card, eq-eqb (length card - at) closeSize h, eq-eqb m rows k) at (on-front (Close m) e))
 
   module _ (id size : ℕ) (e : RowFront id size ≡ frontOf rest) where
@@ -80,20 +80,20 @@ module _ (card : List ℕ) (at rows low : ℕ) (j : Judging card at rows low) wh
         let k = g .long in
         omega arith
 
-    pub judged-many : rows ≡ rowsMost → Malformed ≡ countedFrom 0 (readCard card)
+    pub count-many : rows ≡ rowsMost → Malformed ≡ countedFrom 0 (readCard card)
     unfolding goOn
-    judged-many h =
+    count-many h =
         let z : rowsMost - rows ≡ 0 = omega arith in
         no-row-more rows rest (ltb id low)
         ∙ ap (λ (n : ℕ). countedFrom rows (cardIn (stepFrom (goOn n rest) low rows rest (RowFront id size)))) (sym z) ∙ on-front (RowFront id size) e
 
     module _ (h : rows ≢ rowsMost) where
-      pub judged-low : id < low → Malformed ≡ countedFrom 0 (readCard card)
-      judged-low l = rw (lt-ltb id low l) at (on-front (RowFront id size) e)
+      pub count-low : id < low → Malformed ≡ countedFrom 0 (readCard card)
+      count-low l = rw (lt-ltb id low l) at (on-front (RowFront id size) e)
 
-      pub judging-turn : low ≤ id → Bytes card → Judging card (at + keyAt + size) (rows + 1) (id + 1)
+      pub counting-turn : low ≤ id → Bytes card → Counting card (at + keyAt + size) (rows + 1) (id + 1)
       unfolding FrontGood goOn
-      judging-turn l b =
+      counting-turn l b =
           let w = row-within b in
           let f = j .few in
           let g : GoodRow rest id size = rw (sym e) at (front-good rest (bytes-drop card b at)) in
@@ -105,8 +105,8 @@ module _ (card : List ℕ) (at rows low : ℕ) (j : Judging card at rows low) wh
           let q : suc rows ≡ rows + 1 = omega arith in
           let r : suc id ≡ id + 1 = omega arith in
           let o = frontFrom (rowsMost - (rows + 1)) (suc id) (suc rows) (drop (keyAt + size) rest) in
-          let s : countedFrom rows (cardIn (onto (rowFront rest size) o)) ≡ countedFrom 0 (readCard card) =
-          ap (λ (t : Bool). countedFrom rows (cardIn (cond t (ended fault rest) (onto (rowFront rest size) o)))) (sym (le-ltb id low l))
+          let s : countedFrom rows (cardIn (withRow (rowFront rest size) o)) ≡ countedFrom 0 (readCard card) =
+          ap (λ (t : Bool). countedFrom rows (cardIn (cond t (ended fault rest) (withRow (rowFront rest size) o)))) (sym (le-ltb id low l))
           ∙ ap (λ (n : ℕ). countedFrom rows (cardIn (stepFrom (goOn n rest) low rows rest (RowFront id size)))) (sym z) ∙ on-front (RowFront id size) e in
           record {
             within = omega arith;
@@ -115,5 +115,5 @@ module _ (card : List ℕ) (at rows low : ℕ) (j : Judging card at rows low) wh
             rest = ap (λ (x : List ℕ). countedFrom (rows + 1) (cardIn (frontFrom (rowsMost - (rows + 1)) (id + 1) (rows + 1) x)))
                 (ap (λ (n : ℕ). drop n card) (sym p) ∙ sym (drop-drop (keyAt + size) at card))
                 ∙ ap₂ (λ (x y : ℕ). countedFrom (rows + 1) (cardIn (frontFrom (rowsMost - (rows + 1)) x y (drop (keyAt + size) rest)))) (sym r) (sym q)
-                ∙ counted-onto rows (rowFront rest size) o ∙ s;
+                ∙ counted-with-row rows (rowFront rest size) o ∙ s;
           }

@@ -1,11 +1,11 @@
--- `c_api::rimemagpie_card_write` meets its contract: number and place are read off the answer, which is `writeOf`.
+-- `rimemagpie::rimemagpie_card_write` meets its contract: number and place are read off the answer, which is `writeOf`.
 use mathlib.Core.Path.{sym, ap, _∙_}
 use Rattle.book_card.specs.declared.WriteAnswer.{WriteAnswer}
 use Rattle.book_card.specs.Writing.{writeNumber}
-use Rattle.c_api.specs.Places.{cardPlace}
+use Rattle.rimemagpie.specs.Places.{cardPlace}
 use borrow.Author.Needs.{needs}
-use Rattle.c_api.proofs.rimemagpie_card_write.Statement.{statement}
-use Rattle.c_api.proofs.rimemagpie_card_write.Tie as tie
+use Rattle.rimemagpie.proofs.rimemagpie_card_write.Statement.{statement}
+use Rattle.rimemagpie.proofs.rimemagpie_card_write.Tie as tie
 
 card-write-requires : tie.Need-card-write-requires
 card-write-requires c κs = search needs

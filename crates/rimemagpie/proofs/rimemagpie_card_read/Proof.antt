@@ -1,11 +1,11 @@
--- `c_api::rimemagpie_card_read` meets its contract: number and place are read off the answer, which is `readOf`.
+-- `rimemagpie::rimemagpie_card_read` meets its contract: number and place are read off the answer, which is `readOf`.
 use mathlib.Core.Path.{sym, ap, _∙_}
 use Rattle.book_card.specs.declared.ReadAnswer.{ReadAnswer}
 use Rattle.book_card.specs.Reading.{readNumber}
-use Rattle.c_api.specs.Places.{rowsPlace}
+use Rattle.rimemagpie.specs.Places.{rowsPlace}
 use borrow.Author.Needs.{needs}
-use Rattle.c_api.proofs.rimemagpie_card_read.Statement.{statement}
-use Rattle.c_api.proofs.rimemagpie_card_read.Tie as tie
+use Rattle.rimemagpie.proofs.rimemagpie_card_read.Statement.{statement}
+use Rattle.rimemagpie.proofs.rimemagpie_card_read.Tie as tie
 
 card-read-requires : tie.Need-card-read-requires
 card-read-requires c κs = search needs

@@ -24,8 +24,8 @@ use Rattle.delayed_auth.specs.Check.{sameBytes, judgedRow, judgedSaid, judgedSo
 use Rattle.delayed_auth.specs.Seal.{sealed, sealedMessage, sealedRow, sealedForm, sealedSound, sealOf}
 use Rattle.delayed_auth.specs.declared.Sealing.the-variants.{Sealed}
 use Rattle.demands.specs.Accepts.{Accepts}
-use Rattle.demands.specs.Demand3.{Step, check, seal, checked, wrote, answers, bookAfter, ending, before, Carried, same, relayed, OneSecret, checks, seals, Rearranged}
-use Rattle.worked_runs.specs.Example3.{book, auth7, auth8, ended, relayInfo, sentMessage, relayedMessage, toSeal, sealedBytes, forged, first, second, place, Example3}
+use Rattle.demands.specs.Demand3.{Step, check, seal, checked, wrote, answers, bookAfter, ending, bookAt, Carried, same, relayed, OneSecret, checks, seals, Rearranged}
+use Rattle.worked_runs.specs.Shuffled.{book, auth7, auth8, ended, relayInfo, sentMessage, relayedMessage, toSeal, sealedBytes, forged, first, second, place, Shuffled}
 use Rattle.demands.proofs.Stages.{never}
 use Rattle.demands.proofs.Demand2.{demand-2}
 use Rattle.demands.proofs.Demand3.{demand-3}
@@ -202,7 +202,7 @@ not-accepted : (k c : ℕ) → Accepts after-seal forged k c → ⊥
 not-accepted k c a = let e = demand-2 .accepted after-seal after-seal-sound forged k c .1 a in never (cc wrong-mac)
 
 puts-in : (p : ℕ) → p < length second → ((i : ℕ) → i < length first → place i ≢ p)
-    → (m : List ℕ) × (getElem? second p ≡ some (check m)) × ((k c : ℕ) → Accepts (before book second p) m k c → ⊥)
+    → (m : List ℕ) × (getElem? second p ≡ some (check m)) × ((k c : ℕ) → Accepts (bookAt book second p) m k c → ⊥)
 unfolding after-seal
 puts-in zero l f = absurd (f 2 (omega arith) refl)
 puts-in (suc zero) l f = (forged, refl, not-accepted)
@@ -214,9 +214,9 @@ puts-in (suc (suc (suc (suc (suc p))))) l f = absurd (omega arith)
 makes : Rearranged book first second place
 makes = record { apart = λ i j l h e. sym (back i l) ∙ ap from e ∙ back j h; carried = carries; order = ordered; put-in = puts-in }
 
-pub example-3 : Example3
+pub shuffled : Shuffled
 unfolding counters
-example-3 = record {
+shuffled = record {
   is-sound = is-sound;
   first-answers = first-answers;
   first-received = ap (λ (b : Book). b .received) first-ends;
