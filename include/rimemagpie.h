@@ -12,9 +12,10 @@
  *   - every pointer is valid for its whole buffer and aligned for its type;
  *   - no pointer is null, also where the length is 0. An empty C++ vector's data() may be null: lend the address of any
  *     variable of that type in its place, with the length 0;
- *   - in one call nothing overlaps: no two buffers, no two places of results, and no buffer and a place;
- *   - nobody writes the book, or anything else that is lent, during the call (another thread, a signal handler), nor reads
- *     what the call writes.
+ *   - in one call nothing overlaps what is lent for writing: no two places of results, no place and a buffer, no two
+ *     buffers of which one is not `const`;
+ *   - nobody else (another thread, a signal handler) writes the book or anything else that is lent during the call, or
+ *     reads what the call writes.
  *
  * The key book. Five buffers, each with room for the same n rows (n at most 1,024), and the number of rows in use:
  *

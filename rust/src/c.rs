@@ -3,8 +3,8 @@
 //! and nothing hidden.
 //!
 //! This is the only file with `unsafe`. Slices are valid for their lengths, aligned and not null,
-//! also when empty, and `&mut` never overlaps anything else: all that the header asks for holds by
-//! the types.
+//! also when empty; `&mut` never overlaps anything else, and nobody else writes what is borrowed: all
+//! that the header asks for holds by the types.
 
 #![allow(unsafe_code)]
 
