@@ -195,7 +195,7 @@ mod tests {
         assert_eq!(T[60..], [0xf7537e82, 0xbd3af235, 0x2ad7d2bb, 0xeb86d391]);
     }
 
-    /// Document 01: padding brings n bytes to 64 times (1 plus the whole part of (n + 8)/64).
+    /// docs/RULES.md, 'Digests': padding brings n bytes to 64 times (1 plus the whole part of (n + 8)/64).
     #[test]
     fn padded_length() {
         for n in 0..300 {
