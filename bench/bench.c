@@ -176,8 +176,8 @@ static void compare_digests(const char *what, size_t size, void (*ours)(void *),
 
 struct book {
     uint32_t ids[ROWS_MOST];
-    uint8_t key_lengths[ROWS_MOST];
-    uint8_t key_store[ROWS_MOST * SLOT];
+    uint8_t lengths[ROWS_MOST];
+    uint8_t store[ROWS_MOST * SLOT];
     uint64_t received[ROWS_MOST];
     uint64_t sent[ROWS_MOST];
     size_t rows;
@@ -197,7 +197,7 @@ static uint8_t seal(struct lot *lot, size_t i)
     struct book *b = &lot->book;
     uint64_t counter;
 
-    return rimemagpie_seal(b->ids, b->rows, b->key_lengths, b->rows, b->key_store, b->rows * SLOT, b->received, b->rows,
+    return rimemagpie_seal(b->ids, b->rows, b->lengths, b->rows, b->store, b->rows * SLOT, b->received, b->rows,
                            b->sent, b->rows, b->rows, b->ids[b->rows - 1], lot->messages[i], lot->size, &counter);
 }
 
@@ -206,7 +206,7 @@ static uint8_t check(struct lot *lot, size_t i)
     struct book *b = &lot->book;
     uint64_t row, counter;
 
-    return rimemagpie_check(b->ids, b->rows, b->key_lengths, b->rows, b->key_store, b->rows * SLOT, b->received, b->rows,
+    return rimemagpie_check(b->ids, b->rows, b->lengths, b->rows, b->store, b->rows * SLOT, b->received, b->rows,
                             b->sent, b->rows, b->rows, lot->messages[i], lot->size, &row, &counter);
 }
 
@@ -299,8 +299,8 @@ static void make_lot(struct lot *lot, size_t rows, size_t size, enum filling fil
     lot->book.rows = rows;
     for (size_t k = 0; k < rows; k++) {
         lot->book.ids[k] = (uint32_t)(100 + k);
-        lot->book.key_lengths[k] = KEY_SIZE;
-        memcpy(lot->book.key_store + k * SLOT, key, KEY_SIZE);
+        lot->book.lengths[k] = KEY_SIZE;
+        memcpy(lot->book.store + k * SLOT, key, KEY_SIZE);
     }
     for (size_t i = 0; i < LOT; i++)
         make_message(lot->messages[i], size, filling);

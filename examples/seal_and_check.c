@@ -1,7 +1,7 @@
 /*
  * Seals a DHCPv4 message and checks it, as a server and a client that share a secret would.
  *
- * Build it with:  cc -std=c11 -Iinclude examples/seal_and_check.c target/staticlib/librimemagpie.a -o seal_and_check
+ * Build it with:  cc -std=c11 -Iinclude examples/seal_and_check.c target/staticlib/librimemagpie.a -o target/seal_and_check
  *
  * It exits with 0 if the sealed message is accepted, and refused as a replay when it is shown again.
  */
@@ -18,8 +18,8 @@
 /* A key book with room for one row: the five buffers that every call is lent. */
 struct book {
     uint32_t ids[ROWS];
-    uint8_t key_lengths[ROWS];
-    uint8_t key_store[ROWS * SLOT];
+    uint8_t lengths[ROWS];
+    uint8_t store[ROWS * SLOT];
     uint64_t received[ROWS];
     uint64_t sent[ROWS];
 };
@@ -27,21 +27,21 @@ struct book {
 static struct book make_book(void)
 {
     static const uint8_t key[] = {0x6b, 0x65, 0x79, 0x2d, 0x6f, 0x66, 0x2d, 0x37};
-    struct book book = {.ids = {SECRET_ID}, .key_lengths = {sizeof key}};
+    struct book book = {.ids = {SECRET_ID}, .lengths = {sizeof key}};
 
-    memcpy(book.key_store, key, sizeof key);
+    memcpy(book.store, key, sizeof key);
     return book;
 }
 
 static uint8_t seal(struct book *book, uint8_t *message, size_t length, uint64_t *counter)
 {
-    return rimemagpie_seal(book->ids, ROWS, book->key_lengths, ROWS, book->key_store, sizeof book->key_store,
+    return rimemagpie_seal(book->ids, ROWS, book->lengths, ROWS, book->store, sizeof book->store,
                            book->received, ROWS, book->sent, ROWS, ROWS, SECRET_ID, message, length, counter);
 }
 
 static uint8_t check(struct book *book, const uint8_t *message, size_t length, uint64_t *row, uint64_t *counter)
 {
-    return rimemagpie_check(book->ids, ROWS, book->key_lengths, ROWS, book->key_store, sizeof book->key_store,
+    return rimemagpie_check(book->ids, ROWS, book->lengths, ROWS, book->store, sizeof book->store,
                             book->received, ROWS, book->sent, ROWS, ROWS, message, length, row, counter);
 }
 

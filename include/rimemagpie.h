@@ -1,22 +1,30 @@
 /*
  * Rimemagpie: judges and seals DHCPv4 messages under RFC 3118 delayed authentication (protocol 1, algorithm 1, which is
- * HMAC-MD5, replay detection method 0), and reads and writes the card on which a key book is stored.
+ * HMAC-MD5, replay detection method 0), and reads and writes the card on which a key book is stored. docs/RULES.md has
+ * the rules.
  *
- * Link with libc_api.a. No function allocates, keeps anything between calls, or reads or writes anything but what it is
- * lent.
+ * Link with librimemagpie.a. No function allocates, keeps anything between calls, or reads or writes anything but what it
+ * is lent.
  *
  * What is lent. A pointer and the length after it name a buffer of that many items (bytes, 32-bit or 64-bit numbers, not
- * the size in bytes). Every pointer must be valid for its whole buffer, aligned for its type and not null, also where the
- * length is 0. Buffers of one call must not overlap, and neither must a buffer and the place of a result.
+ * the size in bytes); a pointer without a length is the place of a result. The caller sees to it that
+ *
+ *   - every pointer is valid for its whole buffer and aligned for its type;
+ *   - no pointer is null, also where the length is 0. An empty C++ vector's data() may be null: lend the address of any
+ *     variable of that type in its place, with the length 0;
+ *   - in one call nothing overlaps what is lent for writing: no two places of results, no place and a buffer, no two
+ *     buffers of which one is not `const`;
+ *   - nobody else (another thread, a signal handler) writes the book or anything else that is lent during the call, or
+ *     reads what the call writes.
  *
  * The key book. Five buffers, each with room for the same n rows (n at most 1,024), and the number of rows in use:
  *
- *   ids          n numbers     secret ids
- *   key_lengths  n bytes       bytes of each key
- *   key_store    64 * n bytes  row k's key from 64 * k on
- *   received     n numbers     the counter last accepted from the network under each secret
- *   sent         n numbers     the counter last sealed under each secret
- *   rows                       rows in use
+ *   ids       n numbers     secret ids
+ *   lengths   n bytes       bytes of each key
+ *   store     64 * n bytes  row k's key from 64 * k on
+ *   received  n numbers     the counter last accepted from the network under each secret
+ *   sent      n numbers     the counter last sealed under each secret
+ *   rows                    rows in use
  *
  * The book is sound when the sizes are so, rows is at most n and at most 64, the first `rows` ids ascend strictly and
  * their key lengths are 1 to 64. Any other book may be lent too: it is refused with 1. Slot bytes past a key and rows
@@ -36,26 +44,26 @@
 extern "C" {
 #endif
 
-/* The numbers given back. */
+/* The numbers given back, by the names of crates/refusal. */
 enum rimemagpie_number {
-    RIMEMAGPIE_DONE = 0,                 /* accepted or done */
-    RIMEMAGPIE_BOOK_NOT_SOUND = 1,       /* the book is not sound (reading a card: the lent sizes) */
-    RIMEMAGPIE_MESSAGE_SIZE = 2,         /* the message is below 241 or above 1,472 bytes */
-    RIMEMAGPIE_COOKIE = 3,               /* the cookie differs */
-    RIMEMAGPIE_OPTIONS_CUT = 4,          /* an option passes the message's end, or there is no End */
-    RIMEMAGPIE_NO_AUTHENTICATION = 5,    /* no option 90 */
-    RIMEMAGPIE_TWO_AUTHENTICATIONS = 6,  /* more than one option 90 */
-    RIMEMAGPIE_RELAY_OPTION = 7,         /* more than one option 82, or one that isn't last */
-    RIMEMAGPIE_OTHER_PROTOCOL = 8,       /* option 90 has a length other than 11 and 31, or doesn't begin with 1, 1, 0 */
-    RIMEMAGPIE_REQUEST_FORM = 9,         /* option 90 is a request (length 11): it has no id and no MAC */
-    RIMEMAGPIE_NO_ROW = 10,              /* the secret id has no row */
-    RIMEMAGPIE_REPLAY = 11,              /* the counter is not above the row's received one */
-    RIMEMAGPIE_WRONG_MAC = 12,           /* the MAC differs */
-    RIMEMAGPIE_COUNTER_SPENT = 13,       /* the sent counter is 2^64 - 1 */
-    RIMEMAGPIE_DIGEST_SIZE = 14,         /* the digest's total would pass 65,535 bytes, or an HMAC key is above 64 bytes */
-    RIMEMAGPIE_CARD_MALFORMED = 15,      /* the card is malformed */
-    RIMEMAGPIE_CARD_ROOM = 16,           /* the room for the card is too small */
-    RIMEMAGPIE_BOOK_ROOM = 17            /* the card has more rows than the lent room */
+    RIMEMAGPIE_DONE = 0,                    /* accepted or done */
+    RIMEMAGPIE_UNSOUND_BOOK = 1,            /* the book is not sound (reading a card: the lent sizes) */
+    RIMEMAGPIE_MESSAGE_SIZE = 2,            /* the message is below 241 or above 1,472 bytes */
+    RIMEMAGPIE_WRONG_COOKIE = 3,            /* the cookie differs */
+    RIMEMAGPIE_BROKEN_OPTIONS = 4,          /* an option passes the message's end, or there is no End */
+    RIMEMAGPIE_NO_AUTHENTICATION = 5,       /* no option 90 */
+    RIMEMAGPIE_REPEATED_AUTHENTICATION = 6, /* more than one option 90 */
+    RIMEMAGPIE_RELAY_INFORMATION = 7,       /* more than one option 82, or one that isn't last */
+    RIMEMAGPIE_OTHER_AUTHENTICATION = 8,    /* option 90's length is neither 11 nor 31, or its body doesn't begin 1, 1, 0 */
+    RIMEMAGPIE_REQUEST_FORM = 9,            /* option 90 is a request (length 11): it has no id and no MAC */
+    RIMEMAGPIE_UNKNOWN_SECRET = 10,         /* the secret id has no row */
+    RIMEMAGPIE_REPLAY = 11,                 /* the counter is not above the row's received one */
+    RIMEMAGPIE_WRONG_MAC = 12,              /* the MAC differs */
+    RIMEMAGPIE_COUNTER_SPENT = 13,          /* the sent counter is 2^64 - 1 */
+    RIMEMAGPIE_TOO_LONG = 14,               /* a digest's total would pass 65,535 bytes, or an HMAC key 64 */
+    RIMEMAGPIE_MALFORMED_CARD = 15,         /* the card is malformed */
+    RIMEMAGPIE_NO_ROOM_FOR_CARD = 16,       /* the room for the card is too small */
+    RIMEMAGPIE_NO_ROOM_FOR_ROWS = 17        /* the card has more rows than the lent room */
 };
 
 /*
@@ -85,8 +93,8 @@ uint8_t rimemagpie_hmac(const uint8_t *key, size_t key_len,
  *   1 to 12  refused, as the table says; nothing changed, not `*row` and `*counter` either
  */
 uint8_t rimemagpie_check(const uint32_t *ids, size_t ids_len,
-                         const uint8_t *key_lengths, size_t key_lengths_len,
-                         const uint8_t *key_store, size_t key_store_len,
+                         const uint8_t *lengths, size_t lengths_len,
+                         const uint8_t *store, size_t store_len,
                          uint64_t *received, size_t received_len,
                          const uint64_t *sent, size_t sent_len,
                          size_t rows,
@@ -96,17 +104,17 @@ uint8_t rimemagpie_check(const uint32_t *ids, size_t ids_len,
 /*
  * Where in the key store the key is that a message names. Neither the message's counter nor its MAC is judged.
  *
- *   0        the key is the `*length` bytes from key_store + *offset on
- *   1 to 10  refused, as the table says; nothing changed, not `*offset` and `*length` either
+ *   0        the key is the `*size` bytes from store + *offset on
+ *   1 to 10  refused, as the table says; nothing changed, not `*offset` and `*size` either
  */
 uint8_t rimemagpie_key(const uint32_t *ids, size_t ids_len,
-                       const uint8_t *key_lengths, size_t key_lengths_len,
-                       const uint8_t *key_store, size_t key_store_len,
+                       const uint8_t *lengths, size_t lengths_len,
+                       const uint8_t *store, size_t store_len,
                        const uint64_t *received, size_t received_len,
                        const uint64_t *sent, size_t sent_len,
                        size_t rows,
                        const uint8_t *message, size_t message_len,
-                       uint64_t *offset, uint64_t *length);
+                       uint64_t *offset, uint64_t *size);
 
 /*
  * Seals a message under the secret of an id. The message has an option 90 in full form, whose counter, id and MAC may hold
@@ -119,8 +127,8 @@ uint8_t rimemagpie_key(const uint32_t *ids, size_t ids_len,
  *   13       the row's sent counter is 2^64 - 1; nothing changed
  */
 uint8_t rimemagpie_seal(const uint32_t *ids, size_t ids_len,
-                        const uint8_t *key_lengths, size_t key_lengths_len,
-                        const uint8_t *key_store, size_t key_store_len,
+                        const uint8_t *lengths, size_t lengths_len,
+                        const uint8_t *store, size_t store_len,
                         const uint64_t *received, size_t received_len,
                         uint64_t *sent, size_t sent_len,
                         size_t rows,
@@ -139,8 +147,8 @@ uint8_t rimemagpie_seal(const uint32_t *ids, size_t ids_len,
  */
 uint8_t rimemagpie_card_read(const uint8_t *card, size_t card_len,
                              uint32_t *ids, size_t ids_len,
-                             uint8_t *key_lengths, size_t key_lengths_len,
-                             uint8_t *key_store, size_t key_store_len,
+                             uint8_t *lengths, size_t lengths_len,
+                             uint8_t *store, size_t store_len,
                              uint64_t *received, size_t received_len,
                              uint64_t *sent, size_t sent_len,
                              uint64_t *rows);
@@ -153,8 +161,8 @@ uint8_t rimemagpie_card_read(const uint8_t *card, size_t card_len,
  *   16  the room is below the card's size; nothing changed
  */
 uint8_t rimemagpie_card_write(const uint32_t *ids, size_t ids_len,
-                              const uint8_t *key_lengths, size_t key_lengths_len,
-                              const uint8_t *key_store, size_t key_store_len,
+                              const uint8_t *lengths, size_t lengths_len,
+                              const uint8_t *store, size_t store_len,
                               const uint64_t *received, size_t received_len,
                               const uint64_t *sent, size_t sent_len,
                               size_t rows,

@@ -33,8 +33,8 @@ static uint8_t *block_of(const uint8_t *bytes, size_t size)
 /* A book with room for two rows. */
 struct book {
     uint32_t *ids;
-    uint8_t *key_lengths;
-    uint8_t *key_store;
+    uint8_t *lengths;
+    uint8_t *store;
     uint64_t *received;
     uint64_t *sent;
 };
@@ -44,24 +44,24 @@ static struct book empty_book(void)
     struct book book;
 
     book.ids = (uint32_t *)calloc(2, sizeof *book.ids);
-    book.key_lengths = (uint8_t *)calloc(2, 1);
-    book.key_store = (uint8_t *)calloc(2, 64);
+    book.lengths = (uint8_t *)calloc(2, 1);
+    book.store = (uint8_t *)calloc(2, 64);
     book.received = (uint64_t *)calloc(2, sizeof *book.received);
     book.sent = (uint64_t *)calloc(2, sizeof *book.sent);
-    EXPECT(book.ids && book.key_lengths && book.key_store && book.received && book.sent);
+    EXPECT(book.ids && book.lengths && book.store && book.received && book.sent);
     return book;
 }
 
 static void free_book(struct book book)
 {
     free(book.ids);
-    free(book.key_lengths);
-    free(book.key_store);
+    free(book.lengths);
+    free(book.store);
     free(book.received);
     free(book.sent);
 }
 
-#define LENT(book) (book).ids, 2, (book).key_lengths, 2, (book).key_store, 128, (book).received, 2, (book).sent, 2
+#define LENT(book) (book).ids, 2, (book).lengths, 2, (book).store, 128, (book).received, 2, (book).sent, 2
 
 /* 236 zeros, the cookie, an option 90 in full form, option 82 with four bytes, and End. */
 static void make_message(uint8_t message[280])
@@ -88,9 +88,9 @@ static void digests(void)
 
     EXPECT(rimemagpie_digest(want, 0, out) == RIMEMAGPIE_DONE && memcmp(out, of_nothing, 16) == 0);
     EXPECT(rimemagpie_hmac(jefe, 4, want, 28, out) == RIMEMAGPIE_DONE && memcmp(out, of_jefe, 16) == 0);
-    EXPECT(rimemagpie_digest(long_message, 65536, out) == RIMEMAGPIE_DIGEST_SIZE && memcmp(out, zeros, 16) == 0);
+    EXPECT(rimemagpie_digest(long_message, 65536, out) == RIMEMAGPIE_TOO_LONG && memcmp(out, zeros, 16) == 0);
     memset(out, 9, 16);
-    EXPECT(rimemagpie_hmac(long_message, 65, want, 28, out) == RIMEMAGPIE_DIGEST_SIZE && memcmp(out, zeros, 16) == 0);
+    EXPECT(rimemagpie_hmac(long_message, 65, want, 28, out) == RIMEMAGPIE_TOO_LONG && memcmp(out, zeros, 16) == 0);
 }
 
 /* Row 1 has the id 7 and a key of four bytes; row 0 is there to be passed over. */
@@ -100,9 +100,9 @@ static struct book book_of_two(void)
 
     book.ids[0] = 5;
     book.ids[1] = 7;
-    book.key_lengths[0] = 64;
-    book.key_lengths[1] = 4;
-    memcpy(book.key_store + 64, "\1\2\3\4", 4);
+    book.lengths[0] = 64;
+    book.lengths[1] = 4;
+    memcpy(book.store + 64, "\1\2\3\4", 4);
     book.received[1] = 10;
     book.sent[1] = 10;
     return book;
@@ -110,14 +110,14 @@ static struct book book_of_two(void)
 
 static void seal_key_and_check(struct book book, uint8_t *message)
 {
-    uint64_t counter = 0, row = 0, offset = 0, length = 0;
+    uint64_t counter = 0, row = 0, offset = 0, size = 0;
 
-    EXPECT(rimemagpie_seal(LENT(book), 2, 8, message, 280, &counter) == RIMEMAGPIE_NO_ROW && counter == 0);
+    EXPECT(rimemagpie_seal(LENT(book), 2, 8, message, 280, &counter) == RIMEMAGPIE_UNKNOWN_SECRET && counter == 0);
     EXPECT(rimemagpie_seal(LENT(book), 2, 7, message, 280, &counter) == RIMEMAGPIE_DONE && counter == 11);
     EXPECT(book.sent[0] == 0 && book.sent[1] == 11);
-    EXPECT(rimemagpie_key(LENT(book), 2, message, 280, &offset, &length) == RIMEMAGPIE_DONE);
-    EXPECT(offset == 64 && length == 4);
-    EXPECT(rimemagpie_check(LENT(book), 3, message, 280, &row, &counter) == RIMEMAGPIE_BOOK_NOT_SOUND);
+    EXPECT(rimemagpie_key(LENT(book), 2, message, 280, &offset, &size) == RIMEMAGPIE_DONE);
+    EXPECT(offset == 64 && size == 4);
+    EXPECT(rimemagpie_check(LENT(book), 3, message, 280, &row, &counter) == RIMEMAGPIE_UNSOUND_BOOK);
     EXPECT(rimemagpie_check(LENT(book), 2, message, 280, &row, &counter) == RIMEMAGPIE_DONE);
     EXPECT(row == 1 && counter == 11 && book.received[0] == 0 && book.received[1] == 11);
     EXPECT(rimemagpie_check(LENT(book), 2, message, 280, &row, &counter) == RIMEMAGPIE_REPLAY);
@@ -129,7 +129,7 @@ static void cut_messages(struct book book, const uint8_t *message)
     uint64_t one = 0, two = 0;
 
     for (size_t size = 0; size < 280; size++) {
-        uint8_t expected = size < 241 ? RIMEMAGPIE_MESSAGE_SIZE : RIMEMAGPIE_OPTIONS_CUT;
+        uint8_t expected = size < 241 ? RIMEMAGPIE_MESSAGE_SIZE : RIMEMAGPIE_BROKEN_OPTIONS;
         uint8_t *cut = block_of(message, size);
 
         EXPECT(rimemagpie_check(LENT(book), 2, cut, size, &one, &two) == expected);
@@ -149,20 +149,21 @@ static void cards(struct book book)
     uint64_t written = 0, rows = 0;
 
     EXPECT(card != NULL);
-    EXPECT(rimemagpie_card_write(LENT(book), 2, card, size - 1, &written) == RIMEMAGPIE_CARD_ROOM && written == 0);
+    EXPECT(rimemagpie_card_write(LENT(book), 2, card, size - 1, &written) == RIMEMAGPIE_NO_ROOM_FOR_CARD);
+    EXPECT(written == 0);
     EXPECT(rimemagpie_card_write(LENT(book), 2, card, size, &written) == RIMEMAGPIE_DONE && written == size);
     for (size_t cut = 0; cut < size; cut++) {
         uint8_t *part = block_of(card, cut);
 
-        EXPECT(rimemagpie_card_read(part, cut, LENT(read), &rows) == RIMEMAGPIE_CARD_MALFORMED && rows == 0);
+        EXPECT(rimemagpie_card_read(part, cut, LENT(read), &rows) == RIMEMAGPIE_MALFORMED_CARD && rows == 0);
         free(part);
     }
-    EXPECT(rimemagpie_card_read(card, size, read.ids, 1, read.key_lengths, 1, read.key_store, 64, read.received, 1,
-                                read.sent, 1, &rows) == RIMEMAGPIE_BOOK_ROOM);
+    EXPECT(rimemagpie_card_read(card, size, read.ids, 1, read.lengths, 1, read.store, 64, read.received, 1,
+                                read.sent, 1, &rows) == RIMEMAGPIE_NO_ROOM_FOR_ROWS);
     EXPECT(rimemagpie_card_read(card, size, LENT(read), &rows) == RIMEMAGPIE_DONE && rows == 2);
     EXPECT(memcmp(read.ids, book.ids, 2 * sizeof *book.ids) == 0);
-    EXPECT(memcmp(read.key_lengths, book.key_lengths, 2) == 0);
-    EXPECT(memcmp(read.key_store, book.key_store, 128) == 0);
+    EXPECT(memcmp(read.lengths, book.lengths, 2) == 0);
+    EXPECT(memcmp(read.store, book.store, 128) == 0);
     EXPECT(memcmp(read.received, book.received, 2 * sizeof *book.received) == 0);
     EXPECT(memcmp(read.sent, book.sent, 2 * sizeof *book.sent) == 0);
     free_book(read);

@@ -49,8 +49,8 @@ impl<T: Copy + PartialEq + Debug + From<u8>> Lent<T> {
 /// The five buffers of a book, and its row count.
 pub struct LentBook {
     pub ids: Lent<u32>,
-    pub key_lengths: Lent<u8>,
-    pub key_store: Lent<u8>,
+    pub lengths: Lent<u8>,
+    pub store: Lent<u8>,
     pub received: Lent<u64>,
     pub sent: Lent<u64>,
     pub rows: usize,
@@ -60,8 +60,8 @@ impl LentBook {
     pub fn new(book: &Book, random: &mut Random) -> Self {
         LentBook {
             ids: Lent::new(&book.ids, random),
-            key_lengths: Lent::new(&book.key_lengths, random),
-            key_store: Lent::new(&book.key_store, random),
+            lengths: Lent::new(&book.lengths, random),
+            store: Lent::new(&book.store, random),
             received: Lent::new(&book.received, random),
             sent: Lent::new(&book.sent, random),
             rows: book.rows,
@@ -71,9 +71,8 @@ impl LentBook {
     /// Whether all five buffers hold what the book has.
     pub fn holds(&self, expected: &Book) -> Result<(), Difference> {
         self.ids.holds("ids", &expected.ids)?;
-        self.key_lengths
-            .holds("key_lengths", &expected.key_lengths)?;
-        self.key_store.holds("key_store", &expected.key_store)?;
+        self.lengths.holds("lengths", &expected.lengths)?;
+        self.store.holds("store", &expected.store)?;
         self.received.holds("received", &expected.received)?;
         self.sent.holds("sent", &expected.sent)
     }

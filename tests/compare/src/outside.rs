@@ -18,7 +18,11 @@ pub fn repository_file(path: &str) -> PathBuf {
 
 /// The static library.
 pub fn static_library() -> PathBuf {
-    built("RIMEMAGPIE_LIB_DIR", "target/staticlib", Some("librimemagpie.a"))
+    built(
+        "RIMEMAGPIE_LIB_DIR",
+        "target/staticlib",
+        Some("librimemagpie.a"),
+    )
 }
 
 /// The program judge.

@@ -1,5 +1,5 @@
-//! Runs of checks and seals, and second runs as the network may make them (document 00, demand 3;
-//! document 01, 'Runs').
+//! Runs of checks and seals, and second runs as the network may make them (docs/RULES.md,
+//! 'The demands' and 'Runs').
 //!
 //! In a second run, checks that name one secret keep their order and so do seals under one secret;
 //! all else is shuffled, checked messages are relay-changed, and checks that are refused where they
@@ -80,8 +80,8 @@ impl Implementation for Library {
 pub fn lend(book: &mut Book) -> rimemagpie::Book<'_> {
     rimemagpie::Book {
         ids: &mut book.ids,
-        key_lengths: &mut book.key_lengths,
-        key_store: &mut book.key_store,
+        lengths: &mut book.lengths,
+        store: &mut book.store,
         received: &mut book.received,
         sent: &mut book.sent,
         rows: book.rows,

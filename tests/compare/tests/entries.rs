@@ -87,8 +87,8 @@ fn check_case(random: &mut Random, book: &Book, message: &[u8]) -> Result<u8, Di
     let (mut row, mut counter) = before;
     let number = c::check(
         lent.ids.items(),
-        lent.key_lengths.items(),
-        lent.key_store.items(),
+        lent.lengths.items(),
+        lent.store.items(),
         lent.received.items_mut(),
         lent.sent.items(),
         lent.rows,
@@ -126,8 +126,8 @@ fn key_case(random: &mut Random, book: &Book, message: &[u8]) -> Result<u8, Diff
     let (mut offset, mut length) = before;
     let number = c::key(
         lent.ids.items(),
-        lent.key_lengths.items(),
-        lent.key_store.items(),
+        lent.lengths.items(),
+        lent.store.items(),
         lent.received.items(),
         lent.sent.items(),
         lent.rows,
@@ -171,8 +171,8 @@ fn seal_case(random: &mut Random, book: &Book, message: &[u8]) -> Result<u8, Dif
     let mut counter = before;
     let number = c::seal(
         lent.ids.items(),
-        lent.key_lengths.items(),
-        lent.key_store.items(),
+        lent.lengths.items(),
+        lent.store.items(),
         lent.received.items(),
         lent.sent.items_mut(),
         lent.rows,
@@ -221,8 +221,8 @@ fn card_read_case(random: &mut Random, book: &Book, card: &[u8]) -> Result<u8, D
     let number = c::card_read(
         lent_card.items(),
         lent.ids.items_mut(),
-        lent.key_lengths.items_mut(),
-        lent.key_store.items_mut(),
+        lent.lengths.items_mut(),
+        lent.store.items_mut(),
         lent.received.items_mut(),
         lent.sent.items_mut(),
         &mut rows,
@@ -245,8 +245,8 @@ fn written_again(book: &Book, rows: usize, card: &[u8]) -> Result<(), Difference
     let mut size = 0;
     let number = c::card_write(
         &book.ids,
-        &book.key_lengths,
-        &book.key_store,
+        &book.lengths,
+        &book.store,
         &book.received,
         &book.sent,
         rows,
@@ -299,8 +299,8 @@ fn card_write_case(random: &mut Random, book: &Book) -> Result<u8, Difference> {
     let mut size = before;
     let number = c::card_write(
         lent.ids.items(),
-        lent.key_lengths.items(),
-        lent.key_store.items(),
+        lent.lengths.items(),
+        lent.store.items(),
         lent.received.items(),
         lent.sent.items(),
         lent.rows,
@@ -320,7 +320,7 @@ fn card_write_case(random: &mut Random, book: &Book) -> Result<u8, Difference> {
 /// Room for the book's card: a byte too little, just enough, more, or any. It holds anything
 /// before.
 fn room_to_write(random: &mut Random, book: &Book) -> Vec<u8> {
-    let keys = book.key_lengths.iter().take(book.rows);
+    let keys = book.lengths.iter().take(book.rows);
     let size = 6 + keys.map(|length| 24 + usize::from(*length)).sum::<usize>();
     let room = match random.below(8) {
         0..=1 => size - 1,
@@ -342,8 +342,8 @@ fn round_trip(random: &mut Random, book: &Book, card: &[u8]) -> Result<(), Diffe
     let number = c::card_read(
         card,
         &mut read.ids,
-        &mut read.key_lengths,
-        &mut read.key_store,
+        &mut read.lengths,
+        &mut read.store,
         &mut read.received,
         &mut read.sent,
         &mut rows,
@@ -360,7 +360,7 @@ fn round_trip(random: &mut Random, book: &Book, card: &[u8]) -> Result<(), Diffe
     for row in 0..book.rows {
         let mut slot = book.key(row).to_vec();
         slot.resize(SLOT, 0);
-        let found = &read.key_store[SLOT * row..SLOT * (row + 1)];
+        let found = &read.store[SLOT * row..SLOT * (row + 1)];
         same_items("a slot read back", &slot, found)?;
     }
     Ok(())

@@ -360,8 +360,8 @@ fn card_and_message(random: &mut Random) -> (Vec<u8>, Vec<u8>) {
 fn expected_line(card: &[u8], message: &[u8]) -> (u8, String) {
     let mut book = Book {
         ids: vec![0; 64],
-        key_lengths: vec![0; 64],
-        key_store: vec![0; 64 * 64],
+        lengths: vec![0; 64],
+        store: vec![0; 64 * 64],
         received: vec![0; 64],
         sent: vec![0; 64],
         rows: 0,

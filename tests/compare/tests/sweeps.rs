@@ -158,8 +158,8 @@ fn each_length_of_a_digest() {
 fn read(card: &[u8]) -> u8 {
     let room = Book {
         ids: vec![5; 3],
-        key_lengths: vec![5; 3],
-        key_store: vec![5; 192],
+        lengths: vec![5; 3],
+        store: vec![5; 192],
         received: vec![5; 3],
         sent: vec![5; 3],
         rows: 0,

@@ -1,5 +1,5 @@
 //! Outside answers through the interface: RFC 1321's digests, RFC 2202's HMAC-MD5 cases, and the
-//! bench examples of document 01 by number.
+//! bench examples of docs/RULES.md by number.
 
 use compare::runs::lend;
 use reference::examples::{
@@ -35,8 +35,8 @@ fn rfc_2202_test_cases() {
 fn room_for(n: usize) -> Book {
     Book {
         ids: vec![0; n],
-        key_lengths: vec![0; n],
-        key_store: vec![0; 64 * n],
+        lengths: vec![0; n],
+        store: vec![0; 64 * n],
         received: vec![0; n],
         sent: vec![0; n],
         rows: 0,
@@ -62,7 +62,7 @@ fn example_2_empty_card() {
     book.rows = 1;
     let mut lent = lend(&mut book);
     let longer = [&CARD_EMPTY[..], &[0]].concat();
-    assert_eq!(lent.read_card(&longer), Err(Refusal::CardMalformed));
+    assert_eq!(lent.read_card(&longer), Err(Refusal::MalformedCard));
     assert_eq!(lent.rows, 1);
     assert_eq!(lent.read_card(&CARD_EMPTY), Ok(()));
     assert_eq!(lent.rows, 0);
@@ -92,9 +92,9 @@ fn example_9_put_right() {
 
 #[test]
 fn example_10_key_lengths() {
-    for (length, expected) in [(64, Ok(34 + 60)), (65, Err(Refusal::BookNotSound))] {
+    for (length, expected) in [(64, Ok(34 + 60)), (65, Err(Refusal::UnsoundBook))] {
         let mut book = book_b();
-        book.key_lengths[0] = length;
+        book.lengths[0] = length;
         let answer = lend(&mut book).write_card(&mut [0; 200]);
         assert_eq!(answer, expected);
     }

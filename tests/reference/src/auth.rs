@@ -1,4 +1,5 @@
-//! Check, key of a message and seal (document 01, 'Check, key and seal'; RFC 3118, section 5).
+//! Check, key of a message and seal (docs/RULES.md, 'Check', 'Key of a message' and 'Seal';
+//! RFC 3118, section 5).
 
 use crate::book::Book;
 use crate::hmac::hmac_md5;
@@ -39,10 +40,10 @@ pub fn key_of_message(book: &Book, message: &[u8]) -> Result<Range<usize>, Refus
 /// written.
 pub fn seal(book: &mut Book, id: u32, message: &mut [u8]) -> Result<u64, Refusal> {
     if !book.is_sound() {
-        return Err(Refusal::BookNotSound);
+        return Err(Refusal::UnsoundBook);
     }
     let shape = full_form(message)?;
-    let row = book.row_of(id).ok_or(Refusal::NoRow)?;
+    let row = book.row_of(id).ok_or(Refusal::UnknownSecret)?;
     let counter = book.sent[row].checked_add(1).ok_or(Refusal::CounterSpent)?;
     sign(message, &shape, book.key(row), id, counter);
     book.sent[row] = counter;
@@ -65,12 +66,12 @@ pub fn named_id(message: &[u8], shape: &Shape) -> u32 {
 /// Numbers 1 to 10 for the id that the message names.
 fn named_row(book: &Book, message: &[u8]) -> Result<(Shape, usize), Refusal> {
     if !book.is_sound() {
-        return Err(Refusal::BookNotSound);
+        return Err(Refusal::UnsoundBook);
     }
     let shape = full_form(message)?;
     let row = book
         .row_of(named_id(message, &shape))
-        .ok_or(Refusal::NoRow)?;
+        .ok_or(Refusal::UnknownSecret)?;
     Ok((shape, row))
 }
 
@@ -110,7 +111,10 @@ mod tests {
         book.sent[0] = u64::MAX;
         let before = book.clone();
         let mut message = plain();
-        assert_eq!(seal(&mut book, 8, &mut message), Err(Refusal::NoRow));
+        assert_eq!(
+            seal(&mut book, 8, &mut message),
+            Err(Refusal::UnknownSecret)
+        );
         assert_eq!(seal(&mut book, 7, &mut message), Err(Refusal::CounterSpent));
         assert_eq!((book, message), (before, plain()));
     }
@@ -130,6 +134,6 @@ mod tests {
         let book = book_b();
         let named = message_with(&[&full_option_90(7, 0)[..], &[255]].concat());
         assert_eq!(key_of_message(&book, &named), Ok(0..4));
-        assert_eq!(key_of_message(&book, &plain()), Err(Refusal::NoRow));
+        assert_eq!(key_of_message(&book, &plain()), Err(Refusal::UnknownSecret));
     }
 }

@@ -1,4 +1,4 @@
-//! The key book as a caller lends it (document 01, 'The key book').
+//! The key book as a caller lends it (docs/RULES.md, 'The key book').
 
 use std::ops::Range;
 
@@ -12,8 +12,8 @@ pub const ROOM_MOST: usize = 1_024;
 #[derive(Clone, Debug, PartialEq, Eq, Default)]
 pub struct Book {
     pub ids: Vec<u32>,
-    pub key_lengths: Vec<u8>,
-    pub key_store: Vec<u8>,
+    pub lengths: Vec<u8>,
+    pub store: Vec<u8>,
     pub received: Vec<u64>,
     pub sent: Vec<u64>,
     pub rows: usize,
@@ -24,8 +24,8 @@ impl Book {
     pub fn sizes_agree(&self) -> bool {
         let n = self.ids.len();
         n <= ROOM_MOST
-            && self.key_lengths.len() == n
-            && self.key_store.len() == SLOT * n
+            && self.lengths.len() == n
+            && self.store.len() == SLOT * n
             && self.received.len() == n
             && self.sent.len() == n
     }
@@ -36,7 +36,7 @@ impl Book {
             && self.rows <= self.ids.len()
             && self.rows <= ROWS_MOST
             && ascend_strictly(&self.ids[..self.rows])
-            && self.key_lengths[..self.rows]
+            && self.lengths[..self.rows]
                 .iter()
                 .all(|length| (1..=SLOT).contains(&usize::from(*length)))
     }
@@ -48,12 +48,12 @@ impl Book {
 
     /// Where in the key store a row's key is.
     pub fn key_place(&self, row: usize) -> Range<usize> {
-        SLOT * row..SLOT * row + usize::from(self.key_lengths[row])
+        SLOT * row..SLOT * row + usize::from(self.lengths[row])
     }
 
     /// A row's key.
     pub fn key(&self, row: usize) -> &[u8] {
-        &self.key_store[self.key_place(row)]
+        &self.store[self.key_place(row)]
     }
 }
 
@@ -78,8 +78,8 @@ mod tests {
     fn sizes_must_agree() {
         assert!(sound_after(|_| {}));
         assert!(!sound_after(|b| b.ids.push(9)));
-        assert!(!sound_after(|b| b.key_lengths.push(9)));
-        assert!(!sound_after(|b| b.key_store.push(9)));
+        assert!(!sound_after(|b| b.lengths.push(9)));
+        assert!(!sound_after(|b| b.store.push(9)));
         assert!(!sound_after(|b| b.received.push(9)));
         assert!(!sound_after(|b| b.sent.push(9)));
     }
@@ -89,9 +89,9 @@ mod tests {
         assert!(sound_after(|b| b.rows = 0));
         assert!(!sound_after(|b| b.rows = 2));
         assert!(!sound_after(|b| b.rows = usize::MAX));
-        assert!(!sound_after(|b| b.key_lengths[0] = 0));
-        assert!(sound_after(|b| b.key_lengths[0] = 64));
-        assert!(!sound_after(|b| b.key_lengths[0] = 65));
+        assert!(!sound_after(|b| b.lengths[0] = 0));
+        assert!(sound_after(|b| b.lengths[0] = 64));
+        assert!(!sound_after(|b| b.lengths[0] = 65));
         assert!(ascend_strictly(&[]) && ascend_strictly(&[0, u32::MAX]));
         assert!(!ascend_strictly(&[3, 3]) && !ascend_strictly(&[1, 3, 2]));
     }
@@ -99,8 +99,8 @@ mod tests {
     fn room_for(n: usize, rows: usize) -> Book {
         Book {
             ids: (0..n as u32).collect(),
-            key_lengths: vec![1; n],
-            key_store: vec![0; SLOT * n],
+            lengths: vec![1; n],
+            store: vec![0; SLOT * n],
             received: vec![0; n],
             sent: vec![0; n],
             rows,

@@ -1,4 +1,4 @@
-//! The card on which a book is stored (document 01, 'The card').
+//! The card on which a book is stored (docs/RULES.md, 'The card').
 //!
 //! Records follow one another without gap: length (2 bytes, counting kind and body), kind (2),
 //! body. All numbers are little-endian. Kind 1, a row: id (4), received (8), sent (8), key (1 to
@@ -26,18 +26,18 @@ pub struct Row {
 /// stays as it was.
 pub fn read_card(card: &[u8], book: &mut Book) -> Result<usize, Refusal> {
     if !book.sizes_agree() {
-        return Err(Refusal::BookNotSound);
+        return Err(Refusal::UnsoundBook);
     }
-    let rows = rows_of_card(card).ok_or(Refusal::CardMalformed)?;
+    let rows = rows_of_card(card).ok_or(Refusal::MalformedCard)?;
     if rows.len() > book.ids.len() {
-        return Err(Refusal::BookRoom);
+        return Err(Refusal::NoRoomForRows);
     }
     for (k, row) in rows.iter().enumerate() {
         book.ids[k] = row.id;
         book.received[k] = row.received;
         book.sent[k] = row.sent;
-        book.key_lengths[k] = row.key.len() as u8;
-        let slot = &mut book.key_store[SLOT * k..SLOT * (k + 1)];
+        book.lengths[k] = row.key.len() as u8;
+        let slot = &mut book.store[SLOT * k..SLOT * (k + 1)];
         slot.fill(0);
         slot[..row.key.len()].copy_from_slice(&row.key);
     }
@@ -47,11 +47,11 @@ pub fn read_card(card: &[u8], book: &mut Book) -> Result<usize, Refusal> {
 /// Writes a book's card into the first bytes of the room: numbers 1, 16. Returns the card's size.
 pub fn write_card(book: &Book, room: &mut [u8]) -> Result<usize, Refusal> {
     if !book.is_sound() {
-        return Err(Refusal::BookNotSound);
+        return Err(Refusal::UnsoundBook);
     }
     let card = card_of_rows(&rows_of_book(book));
     if room.len() < card.len() {
-        return Err(Refusal::CardRoom);
+        return Err(Refusal::NoRoomForCard);
     }
     room[..card.len()].copy_from_slice(&card);
     Ok(card.len())
@@ -185,8 +185,8 @@ mod tests {
     fn reading_leaves_further_rows() {
         let mut book = Book {
             ids: vec![9; 3],
-            key_lengths: vec![9; 3],
-            key_store: vec![9; 192],
+            lengths: vec![9; 3],
+            store: vec![9; 192],
             received: vec![9; 3],
             sent: vec![9; 3],
             rows: 0,
@@ -194,9 +194,9 @@ mod tests {
         let card = card_of_rows(&rows(2, 5));
         assert_eq!(read_card(&card, &mut book), Ok(2));
         assert_eq!(book.ids, [0, 1, 9]);
-        assert_eq!(book.key_lengths, [5, 5, 9]);
-        assert_eq!(book.key_store[64..69], [1; 5]);
-        assert_eq!(book.key_store[69..128], [0; 59]);
-        assert_eq!(book.key_store[128..], [9; 64]);
+        assert_eq!(book.lengths, [5, 5, 9]);
+        assert_eq!(book.store[64..69], [1; 5]);
+        assert_eq!(book.store[69..128], [0; 59]);
+        assert_eq!(book.store[128..], [9; 64]);
     }
 }

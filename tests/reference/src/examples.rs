@@ -1,5 +1,5 @@
 //! Examples with outside answers: RFC 1321's digests, RFC 2202's HMAC-MD5 cases, and the bench
-//! examples of document 01. They are data only, so that every implementation can be held against
+//! examples of docs/RULES.md. They are data only, so that every implementation can be held against
 //! them.
 
 use crate::book::Book;
@@ -95,12 +95,12 @@ pub fn hex(bytes: &[u8]) -> String {
 
 /// Book B: one row, id 7, received 10, sent 3, key 1, 2, 3, 4.
 pub fn book_b() -> Book {
-    let mut key_store = vec![1, 2, 3, 4];
-    key_store.resize(64, 0);
+    let mut store = vec![1, 2, 3, 4];
+    store.resize(64, 0);
     Book {
         ids: vec![7],
-        key_lengths: vec![4],
-        key_store,
+        lengths: vec![4],
+        store,
         received: vec![10],
         sent: vec![3],
         rows: 1,

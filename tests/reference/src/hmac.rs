@@ -13,7 +13,7 @@ pub const KEY_MOST: usize = 64;
 /// of up to 65,535.
 pub fn hmac(key: &[u8], message: &[u8]) -> Result<[u8; 16], Refusal> {
     if key.len() > KEY_MOST || BLOCK + message.len() > DIGEST_MOST {
-        return Err(Refusal::DigestSize);
+        return Err(Refusal::TooLong);
     }
     Ok(hmac_md5(key, message))
 }
@@ -56,7 +56,7 @@ mod tests {
             if case.key.len() <= 64 {
                 assert_eq!(answer.map(|mac| hex(&mac)), Ok(case.mac.to_string()));
             } else {
-                assert_eq!(answer, Err(Refusal::DigestSize));
+                assert_eq!(answer, Err(Refusal::TooLong));
             }
         }
     }
@@ -64,7 +64,7 @@ mod tests {
     #[test]
     fn inner_total_counts_the_key_block() {
         assert!(hmac(b"k", &[0; 65_471]).is_ok());
-        assert_eq!(hmac(b"k", &[0; 65_472]), Err(Refusal::DigestSize));
+        assert_eq!(hmac(b"k", &[0; 65_472]), Err(Refusal::TooLong));
         assert!(hmac(&[], &[]).is_ok());
     }
 }

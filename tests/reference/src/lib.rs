@@ -1,7 +1,7 @@
 //! A second implementation of what the library does, to compare it with: plain, slow and obvious.
 //!
-//! It is written from the papers alone: document 01's rules over RFC 1321 (MD5), RFC 2104 (HMAC),
-//! RFC 2131 and 2132 (the message and its options), RFC 3046 (option 82) and RFC 3118 (option 90).
+//! It follows docs/RULES.md and the RFCs, never the proved code: RFC 1321 (MD5), RFC 2104 (HMAC), RFC
+//! 2131 and 2132 (the message and its options), RFC 3046 (option 82) and RFC 3118 (option 90).
 //! It shares no line with the proved library, copies freely and looks at everything from the start
 //! again, since nobody waits for it.
 

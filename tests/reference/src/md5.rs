@@ -33,12 +33,12 @@ static T: LazyLock<[u32; 64]> = LazyLock::new(|| {
 /// The library's entry: MD5 of a whole message of up to 65,535 bytes.
 pub fn digest(message: &[u8]) -> Result<[u8; 16], Refusal> {
     if message.len() > DIGEST_MOST {
-        return Err(Refusal::DigestSize);
+        return Err(Refusal::TooLong);
     }
     Ok(md5(message))
 }
 
-/// A digest in progress (document 01, 'MD5 and HMAC-MD5'): of the tail the first (total mod 64)
+/// A digest in progress (docs/RULES.md, 'Digests'): of the tail the first (total mod 64)
 /// bytes are in use. The fields may hold anything; every state has an answer.
 #[derive(Clone, Copy, Debug, PartialEq, Eq)]
 pub struct Progress {
@@ -62,7 +62,7 @@ impl Progress {
     pub fn feed(self, piece: &[u8]) -> Result<Self, Refusal> {
         let room = (DIGEST_MOST as u64).checked_sub(self.total);
         if room.is_none_or(|room| piece.len() as u64 > room) {
-            return Err(Refusal::DigestSize);
+            return Err(Refusal::TooLong);
         }
         let (words, left) = after_blocks(self.words, &[self.in_use(), piece].concat());
         let mut tail = [0; BLOCK];
@@ -77,7 +77,7 @@ impl Progress {
     /// The digest of what the state has taken. Refused where the total is above 65,535.
     pub fn finish(self) -> Result<[u8; 16], Refusal> {
         if self.total > DIGEST_MOST as u64 {
-            return Err(Refusal::DigestSize);
+            return Err(Refusal::TooLong);
         }
         let last = [self.in_use(), &padding(self.total)].concat();
         Ok(bytes_of(after_blocks(self.words, &last).0))
@@ -195,7 +195,7 @@ mod tests {
         assert_eq!(T[60..], [0xf7537e82, 0xbd3af235, 0x2ad7d2bb, 0xeb86d391]);
     }
 
-    /// Document 01: padding brings n bytes to 64 times (1 plus the whole part of (n + 8)/64).
+    /// docs/RULES.md, 'Digests': padding brings n bytes to 64 times (1 plus the whole part of (n + 8)/64).
     #[test]
     fn padded_length() {
         for n in 0..300 {
@@ -222,17 +222,17 @@ mod tests {
         let full = Progress::begin().feed(&[7; 65_535]).unwrap();
         assert_eq!(full.finish(), Ok(md5(&[7; 65_535])));
         assert_eq!(full.feed(&[]), Ok(full));
-        assert_eq!(full.feed(&[7]), Err(Refusal::DigestSize));
+        assert_eq!(full.feed(&[7]), Err(Refusal::TooLong));
         for total in [65_536, 1 << 32, u64::MAX] {
             let past = Progress { total, ..full };
-            assert_eq!(past.feed(&[]), Err(Refusal::DigestSize));
-            assert_eq!(past.finish(), Err(Refusal::DigestSize));
+            assert_eq!(past.feed(&[]), Err(Refusal::TooLong));
+            assert_eq!(past.finish(), Err(Refusal::TooLong));
         }
     }
 
     #[test]
     fn entry_takes_65535_bytes_and_no_more() {
         assert_eq!(digest(&[0; 65_535]), Ok(md5(&[0; 65_535])));
-        assert_eq!(digest(&[0; 65_536]), Err(Refusal::DigestSize));
+        assert_eq!(digest(&[0; 65_536]), Err(Refusal::TooLong));
     }
 }

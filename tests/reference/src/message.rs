@@ -1,5 +1,5 @@
 //! The DHCPv4 message: its fixed part, its options, numbers 2 to 9, and the image that the MAC
-//! covers.
+//! covers (docs/RULES.md, 'The message' and 'The covered image').
 //!
 //! Fixed part (RFC 2131), by offset: hops 3; giaddr 24..28; cookie 236..240; options from 240.
 //!
@@ -86,23 +86,23 @@ pub fn shape(message: &[u8]) -> Result<Shape, Refusal> {
         return Err(Refusal::MessageSize);
     }
     if message[COOKIE_AT..COOKIE_AT + 4] != COOKIE {
-        return Err(Refusal::Cookie);
+        return Err(Refusal::WrongCookie);
     }
-    let (options, end_at) = read_options(message).ok_or(Refusal::OptionsCut)?;
+    let (options, end_at) = read_options(message).ok_or(Refusal::BrokenOptions)?;
     let authentications = of_code(&options, AUTHENTICATION);
     if authentications.is_empty() {
         return Err(Refusal::NoAuthentication);
     }
     if authentications.len() > 1 {
-        return Err(Refusal::TwoAuthentications);
+        return Err(Refusal::RepeatedAuthentication);
     }
     let relay_agents = of_code(&options, RELAY_AGENT);
     if relay_agents.len() > 1 {
-        return Err(Refusal::RelayOption);
+        return Err(Refusal::RelayInformation);
     }
     let relay_agent = relay_agents.first().copied();
     if relay_agent.is_some() && relay_agent != options.last().copied() {
-        return Err(Refusal::RelayOption);
+        return Err(Refusal::RelayInformation);
     }
     Ok(Shape {
         authentication: authentications[0],
@@ -117,10 +117,10 @@ pub fn full_form(message: &[u8]) -> Result<Shape, Refusal> {
     let body = &message[shape.authentication.body()];
     let length = body.len();
     if length != FULL_LENGTH && length != REQUEST_LENGTH {
-        return Err(Refusal::OtherProtocol);
+        return Err(Refusal::OtherAuthentication);
     }
     if body[..3] != DELAYED_HMAC_MD5 {
-        return Err(Refusal::OtherProtocol);
+        return Err(Refusal::OtherAuthentication);
     }
     if length == REQUEST_LENGTH {
         return Err(Refusal::RequestForm);

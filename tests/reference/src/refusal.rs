@@ -1,29 +1,29 @@
-//! The refusals, each with the number it gives back (document 01, 'Numbers given back').
+//! The refusals, each with the number it gives back (docs/RULES.md, 'Numbers').
 
 /// Why an entry refuses. The lowest number that applies is the one given.
 #[derive(Clone, Copy, Debug, PartialEq, Eq)]
 #[repr(u8)]
 pub enum Refusal {
     /// The book is not sound; for reading a card, the lent sizes are not.
-    BookNotSound = 1,
+    UnsoundBook = 1,
     /// The message is below 241 or above 1,472 bytes.
     MessageSize = 2,
     /// The cookie differs.
-    Cookie = 3,
+    WrongCookie = 3,
     /// An option passes the message's end, or there is no End.
-    OptionsCut = 4,
+    BrokenOptions = 4,
     /// There is no option 90.
     NoAuthentication = 5,
     /// There is more than one option 90.
-    TwoAuthentications = 6,
+    RepeatedAuthentication = 6,
     /// There is more than one option 82, or one that isn't last.
-    RelayOption = 7,
+    RelayInformation = 7,
     /// Option 90 has another length than 11 and 31, or doesn't begin with 1, 1, 0.
-    OtherProtocol = 8,
+    OtherAuthentication = 8,
     /// Option 90 is a request for authentication, without id and MAC.
     RequestForm = 9,
     /// The secret id has no row.
-    NoRow = 10,
+    UnknownSecret = 10,
     /// The counter is not above the row's received one.
     Replay = 11,
     /// The MAC differs.
@@ -31,13 +31,13 @@ pub enum Refusal {
     /// The sent counter is at its last value.
     CounterSpent = 13,
     /// The digest's total would pass 65,535 bytes, or an HMAC key is above 64 bytes.
-    DigestSize = 14,
+    TooLong = 14,
     /// The card is malformed.
-    CardMalformed = 15,
+    MalformedCard = 15,
     /// The room for the card is too small.
-    CardRoom = 16,
+    NoRoomForCard = 16,
     /// The card has more rows than the lent room.
-    BookRoom = 17,
+    NoRoomForRows = 17,
 }
 
 impl Refusal {

@@ -1,4 +1,4 @@
-//! Permitted relay changes (document 01, 'The message'; RFC 3118, section 3, and RFC 3046).
+//! Permitted relay changes (docs/RULES.md, 'Relay changes'; RFC 3118, section 3, and RFC 3046).
 
 use crate::message::{shape, GIADDR, HOPS_AT, MESSAGE_MOST, RELAY_AGENT};
 

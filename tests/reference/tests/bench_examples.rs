@@ -1,5 +1,5 @@
-//! The bench examples of document 01, by number, on the second implementation. (Example 9's program
-//! is run by the tests beside the library.)
+//! The bench examples of docs/RULES.md, by number, on the second implementation. (Example 9's
+//! program is run by the tests beside the library.)
 
 use reference::examples::{accepted_by_b, book_b, refused_by_b, CARD_B, CARD_EMPTY};
 use reference::refusal::number_of;
@@ -9,8 +9,8 @@ use reference::{check, read_card, write_card, Accepted, Book, Refusal};
 fn room_for(n: usize) -> Book {
     Book {
         ids: vec![0; n],
-        key_lengths: vec![0; n],
-        key_store: vec![0; 64 * n],
+        lengths: vec![0; n],
+        store: vec![0; 64 * n],
         received: vec![0; n],
         sent: vec![0; n],
         rows: 0,
@@ -34,7 +34,7 @@ fn example_2_empty_card() {
     assert_eq!(read_card(&CARD_EMPTY, &mut room_for(0)), Ok(0));
     let longer = [&CARD_EMPTY[..], &[0]].concat();
     let answer = read_card(&longer, &mut room_for(0));
-    assert_eq!(answer, Err(Refusal::CardMalformed));
+    assert_eq!(answer, Err(Refusal::MalformedCard));
 }
 
 #[test]
@@ -61,8 +61,8 @@ fn example_9_put_right() {
 #[test]
 fn example_10_key_lengths() {
     let mut book = book_b();
-    book.key_lengths[0] = 64;
+    book.lengths[0] = 64;
     assert!(book.is_sound());
-    book.key_lengths[0] = 65;
+    book.lengths[0] = 65;
     assert!(!book.is_sound());
 }

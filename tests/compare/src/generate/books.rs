@@ -35,15 +35,15 @@ pub fn sound_with_a_row(random: &mut Random) -> Book {
 /// allow it.
 pub fn with_rows(random: &mut Random, room: usize, rows: usize) -> Book {
     let mut ids = ascending_ids(random, rows);
-    let mut key_lengths: Vec<u8> = (0..rows).map(|_| key_length(random)).collect();
+    let mut lengths: Vec<u8> = (0..rows).map(|_| key_length(random)).collect();
     for _ in rows..room {
         ids.push(random.u32());
-        key_lengths.push(random.u8());
+        lengths.push(random.u8());
     }
     Book {
         ids,
-        key_lengths,
-        key_store: random.bytes(SLOT * room),
+        lengths,
+        store: random.bytes(SLOT * room),
         received: (0..room).map(|_| counter(random)).collect(),
         sent: (0..room).map(|_| counter(random)).collect(),
         rows,
@@ -152,8 +152,8 @@ pub fn spoil(random: &mut Random, book: &mut Book) {
 pub fn spoil_by(random: &mut Random, book: &mut Book, fault: Fault) {
     match fault {
         Fault::IdsSize => resize(random, &mut book.ids),
-        Fault::KeyLengthsSize => resize(random, &mut book.key_lengths),
-        Fault::KeyStoreSize => resize_store(random, &mut book.key_store),
+        Fault::KeyLengthsSize => resize(random, &mut book.lengths),
+        Fault::KeyStoreSize => resize_store(random, &mut book.store),
         Fault::ReceivedSize => resize(random, &mut book.received),
         Fault::SentSize => resize(random, &mut book.sent),
         Fault::RoomAbove1024 => {
@@ -184,11 +184,11 @@ pub fn spoil_by(random: &mut Random, book: &mut Book, fault: Fault) {
         }
         Fault::KeyEmpty => {
             let row = random.below(book.rows);
-            book.key_lengths[row] = 0;
+            book.lengths[row] = 0;
         }
         Fault::KeyTooLong => {
             let row = random.below(book.rows);
-            book.key_lengths[row] = random.pick(&[65, 66, 128, 255]);
+            book.lengths[row] = random.pick(&[65, 66, 128, 255]);
         }
     }
 }

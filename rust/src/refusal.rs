@@ -1,4 +1,4 @@
-//! The refusals by name, each with the number that the C interface returns.
+//! The refusals by the names of crates/refusal, each with the number that the C interface returns.
 
 use std::error::Error;
 use std::fmt;
@@ -16,7 +16,7 @@ macro_rules! refusals {
             /// Every refusal, in the order of the numbers.
             pub const ALL: &'static [Refusal] = &[$(Refusal::$name,)*];
 
-            /// The number that the C interface returns for it, 1 to 17.
+            /// The number that the C interface returns for it.
             pub fn number(self) -> u8 {
                 match self {
                     $(Refusal::$name => $number,)*
@@ -34,23 +34,23 @@ macro_rules! refusals {
 }
 
 refusals! {
-    BookNotSound = 1, "the book is not sound";
+    UnsoundBook = 1, "the book is not sound";
     MessageSize = 2, "the message is below 241 or above 1,472 bytes";
-    Cookie = 3, "the cookie differs";
-    OptionsCut = 4, "an option passes the message's end, or there is no End";
+    WrongCookie = 3, "the cookie differs";
+    BrokenOptions = 4, "an option passes the message's end, or there is no End";
     NoAuthentication = 5, "there is no option 90";
-    TwoAuthentications = 6, "there is more than one option 90";
-    RelayOption = 7, "there is more than one option 82, or one that isn't last";
-    OtherProtocol = 8, "option 90 is not delayed authentication with HMAC-MD5 and a counter";
+    RepeatedAuthentication = 6, "there is more than one option 90";
+    RelayInformation = 7, "there is more than one option 82, or one that isn't last";
+    OtherAuthentication = 8, "option 90 is not delayed authentication with HMAC-MD5 and a counter";
     RequestForm = 9, "option 90 is a request, without id and MAC";
-    NoRow = 10, "the secret id has no row";
+    UnknownSecret = 10, "the secret id has no row";
     Replay = 11, "the counter is not above the row's received one";
     WrongMac = 12, "the MAC differs";
     CounterSpent = 13, "the sent counter is at its last value";
-    DigestSize = 14, "the digest's total would pass 65,535 bytes, or the key is above 64 bytes";
-    CardMalformed = 15, "the card is malformed";
-    CardRoom = 16, "the room for the card is too small";
-    BookRoom = 17, "the card has more rows than there is room for";
+    TooLong = 14, "the digest's total would pass 65,535 bytes, or the key is above 64 bytes";
+    MalformedCard = 15, "the card is malformed";
+    NoRoomForCard = 16, "the room for the card is too small";
+    NoRoomForRows = 17, "the card has more rows than there is room for";
 }
 
 impl Refusal {

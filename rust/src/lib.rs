@@ -5,13 +5,13 @@
 //! use rimemagpie::{Accepted, Book, Refusal};
 //!
 //! // A book with room for two rows, one of them in use: id 7 with a key of four bytes.
-//! let (mut ids, mut key_lengths, mut key_store) = ([7, 0], [4, 0], [0; 128]);
+//! let (mut ids, mut lengths, mut store) = ([7, 0], [4, 0], [0; 128]);
 //! let (mut received, mut sent) = ([0; 2], [0; 2]);
-//! key_store[..4].copy_from_slice(&[1, 2, 3, 4]);
+//! store[..4].copy_from_slice(&[1, 2, 3, 4]);
 //! let mut book = Book {
 //!     ids: &mut ids,
-//!     key_lengths: &mut key_lengths,
-//!     key_store: &mut key_store,
+//!     lengths: &mut lengths,
+//!     store: &mut store,
 //!     received: &mut received,
 //!     sent: &mut sent,
 //!     rows: 1,
@@ -69,16 +69,16 @@ pub struct Accepted {
 ///
 /// It is sound when the sizes are so, `rows` is at most n and at most 64, the ids in use ascend
 /// strictly and their key lengths are 1 to 64. Any other book is refused with
-/// [`Refusal::BookNotSound`].
+/// [`Refusal::UnsoundBook`].
 ///
 /// Printed by `{:?}` it shows how large the key store is, and no key.
 pub struct Book<'a> {
     /// Secret ids, n of them.
     pub ids: &'a mut [u32],
     /// Bytes of each key.
-    pub key_lengths: &'a mut [u8],
+    pub lengths: &'a mut [u8],
     /// A slot of 64 bytes for each key.
-    pub key_store: &'a mut [u8],
+    pub store: &'a mut [u8],
     /// The counter last accepted under each secret.
     pub received: &'a mut [u64],
     /// The counter last sealed under each secret.
@@ -92,8 +92,8 @@ impl fmt::Debug for Book<'_> {
     fn fmt(&self, f: &mut fmt::Formatter<'_>) -> fmt::Result {
         f.debug_struct("Book")
             .field("ids", &self.ids)
-            .field("key_lengths", &self.key_lengths)
-            .field("key_store", &format_args!("{} bytes", self.key_store.len()))
+            .field("lengths", &self.lengths)
+            .field("store", &format_args!("{} bytes", self.store.len()))
             .field("received", &self.received)
             .field("sent", &self.sent)
             .field("rows", &self.rows)
@@ -107,8 +107,8 @@ impl Book<'_> {
         let (mut row, mut counter) = (0, 0);
         Refusal::from_number(c::check(
             self.ids,
-            self.key_lengths,
-            self.key_store,
+            self.lengths,
+            self.store,
             self.received,
             self.sent,
             self.rows,
@@ -122,19 +122,19 @@ impl Book<'_> {
 
     /// The key of the secret that a message names. Neither its counter nor its MAC is judged.
     pub fn key(&self, message: &[u8]) -> Result<&[u8], Refusal> {
-        let (mut offset, mut length) = (0, 0);
+        let (mut offset, mut size) = (0, 0);
         Refusal::from_number(c::key(
             self.ids,
-            self.key_lengths,
-            self.key_store,
+            self.lengths,
+            self.store,
             self.received,
             self.sent,
             self.rows,
             message,
             &mut offset,
-            &mut length,
+            &mut size,
         ))?;
-        Ok(&self.key_store[index(offset)..][..index(length)])
+        Ok(&self.store[index(offset)..][..index(size)])
     }
 
     /// Seals a message that has an option 90 in full form: writes the next counter, the id and the
@@ -143,8 +143,8 @@ impl Book<'_> {
         let mut counter = 0;
         Refusal::from_number(c::seal(
             self.ids,
-            self.key_lengths,
-            self.key_store,
+            self.lengths,
+            self.store,
             self.received,
             self.sent,
             self.rows,
@@ -162,8 +162,8 @@ impl Book<'_> {
         Refusal::from_number(c::card_read(
             card,
             self.ids,
-            self.key_lengths,
-            self.key_store,
+            self.lengths,
+            self.store,
             self.received,
             self.sent,
             &mut rows,
@@ -178,8 +178,8 @@ impl Book<'_> {
         let mut size = 0;
         Refusal::from_number(c::card_write(
             self.ids,
-            self.key_lengths,
-            self.key_store,
+            self.lengths,
+            self.store,
             self.received,
             self.sent,
             self.rows,

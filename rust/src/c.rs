@@ -3,8 +3,8 @@
 //! and nothing hidden.
 //!
 //! This is the only file with `unsafe`. Slices are valid for their lengths, aligned and not null,
-//! also when empty, and `&mut` never overlaps anything else: all that the header asks for holds by
-//! the types.
+//! also when empty; `&mut` never overlaps anything else, and nobody else writes what is borrowed: all
+//! that the header asks for holds by the types.
 
 #![allow(unsafe_code)]
 
@@ -24,10 +24,10 @@ mod header {
         pub fn rimemagpie_check(
             ids: *const u32,
             ids_len: usize,
-            key_lengths: *const u8,
-            key_lengths_len: usize,
-            key_store: *const u8,
-            key_store_len: usize,
+            lengths: *const u8,
+            lengths_len: usize,
+            store: *const u8,
+            store_len: usize,
             received: *mut u64,
             received_len: usize,
             sent: *const u64,
@@ -42,10 +42,10 @@ mod header {
         pub fn rimemagpie_key(
             ids: *const u32,
             ids_len: usize,
-            key_lengths: *const u8,
-            key_lengths_len: usize,
-            key_store: *const u8,
-            key_store_len: usize,
+            lengths: *const u8,
+            lengths_len: usize,
+            store: *const u8,
+            store_len: usize,
             received: *const u64,
             received_len: usize,
             sent: *const u64,
@@ -54,16 +54,16 @@ mod header {
             message: *const u8,
             message_len: usize,
             offset: *mut u64,
-            length: *mut u64,
+            size: *mut u64,
         ) -> u8;
 
         pub fn rimemagpie_seal(
             ids: *const u32,
             ids_len: usize,
-            key_lengths: *const u8,
-            key_lengths_len: usize,
-            key_store: *const u8,
-            key_store_len: usize,
+            lengths: *const u8,
+            lengths_len: usize,
+            store: *const u8,
+            store_len: usize,
             received: *const u64,
             received_len: usize,
             sent: *mut u64,
@@ -80,10 +80,10 @@ mod header {
             card_len: usize,
             ids: *mut u32,
             ids_len: usize,
-            key_lengths: *mut u8,
-            key_lengths_len: usize,
-            key_store: *mut u8,
-            key_store_len: usize,
+            lengths: *mut u8,
+            lengths_len: usize,
+            store: *mut u8,
+            store_len: usize,
             received: *mut u64,
             received_len: usize,
             sent: *mut u64,
@@ -94,10 +94,10 @@ mod header {
         pub fn rimemagpie_card_write(
             ids: *const u32,
             ids_len: usize,
-            key_lengths: *const u8,
-            key_lengths_len: usize,
-            key_store: *const u8,
-            key_store_len: usize,
+            lengths: *const u8,
+            lengths_len: usize,
+            store: *const u8,
+            store_len: usize,
             received: *const u64,
             received_len: usize,
             sent: *const u64,
@@ -132,8 +132,8 @@ pub fn hmac(key: &[u8], message: &[u8], mac: &mut [u8; 16]) -> u8 {
 #[allow(clippy::too_many_arguments)]
 pub fn check(
     ids: &[u32],
-    key_lengths: &[u8],
-    key_store: &[u8],
+    lengths: &[u8],
+    store: &[u8],
     received: &mut [u64],
     sent: &[u64],
     rows: usize,
@@ -145,10 +145,10 @@ pub fn check(
         header::rimemagpie_check(
             ids.as_ptr(),
             ids.len(),
-            key_lengths.as_ptr(),
-            key_lengths.len(),
-            key_store.as_ptr(),
-            key_store.len(),
+            lengths.as_ptr(),
+            lengths.len(),
+            store.as_ptr(),
+            store.len(),
             received.as_mut_ptr(),
             received.len(),
             sent.as_ptr(),
@@ -166,23 +166,23 @@ pub fn check(
 #[allow(clippy::too_many_arguments)]
 pub fn key(
     ids: &[u32],
-    key_lengths: &[u8],
-    key_store: &[u8],
+    lengths: &[u8],
+    store: &[u8],
     received: &[u64],
     sent: &[u64],
     rows: usize,
     message: &[u8],
     offset: &mut u64,
-    length: &mut u64,
+    size: &mut u64,
 ) -> u8 {
     unsafe {
         header::rimemagpie_key(
             ids.as_ptr(),
             ids.len(),
-            key_lengths.as_ptr(),
-            key_lengths.len(),
-            key_store.as_ptr(),
-            key_store.len(),
+            lengths.as_ptr(),
+            lengths.len(),
+            store.as_ptr(),
+            store.len(),
             received.as_ptr(),
             received.len(),
             sent.as_ptr(),
@@ -191,7 +191,7 @@ pub fn key(
             message.as_ptr(),
             message.len(),
             offset,
-            length,
+            size,
         )
     }
 }
@@ -200,8 +200,8 @@ pub fn key(
 #[allow(clippy::too_many_arguments)]
 pub fn seal(
     ids: &[u32],
-    key_lengths: &[u8],
-    key_store: &[u8],
+    lengths: &[u8],
+    store: &[u8],
     received: &[u64],
     sent: &mut [u64],
     rows: usize,
@@ -213,10 +213,10 @@ pub fn seal(
         header::rimemagpie_seal(
             ids.as_ptr(),
             ids.len(),
-            key_lengths.as_ptr(),
-            key_lengths.len(),
-            key_store.as_ptr(),
-            key_store.len(),
+            lengths.as_ptr(),
+            lengths.len(),
+            store.as_ptr(),
+            store.len(),
             received.as_ptr(),
             received.len(),
             sent.as_mut_ptr(),
@@ -235,8 +235,8 @@ pub fn seal(
 pub fn card_read(
     card: &[u8],
     ids: &mut [u32],
-    key_lengths: &mut [u8],
-    key_store: &mut [u8],
+    lengths: &mut [u8],
+    store: &mut [u8],
     received: &mut [u64],
     sent: &mut [u64],
     rows: &mut u64,
@@ -247,10 +247,10 @@ pub fn card_read(
             card.len(),
             ids.as_mut_ptr(),
             ids.len(),
-            key_lengths.as_mut_ptr(),
-            key_lengths.len(),
-            key_store.as_mut_ptr(),
-            key_store.len(),
+            lengths.as_mut_ptr(),
+            lengths.len(),
+            store.as_mut_ptr(),
+            store.len(),
             received.as_mut_ptr(),
             received.len(),
             sent.as_mut_ptr(),
@@ -264,8 +264,8 @@ pub fn card_read(
 #[allow(clippy::too_many_arguments)]
 pub fn card_write(
     ids: &[u32],
-    key_lengths: &[u8],
-    key_store: &[u8],
+    lengths: &[u8],
+    store: &[u8],
     received: &[u64],
     sent: &[u64],
     rows: usize,
@@ -276,10 +276,10 @@ pub fn card_write(
         header::rimemagpie_card_write(
             ids.as_ptr(),
             ids.len(),
-            key_lengths.as_ptr(),
-            key_lengths.len(),
-            key_store.as_ptr(),
-            key_store.len(),
+            lengths.as_ptr(),
+            lengths.len(),
+            store.as_ptr(),
+            store.len(),
             received.as_ptr(),
             received.len(),
             sent.as_ptr(),
