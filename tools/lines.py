@@ -9,8 +9,8 @@ import sys
 
 MOST = 160
 
-# Lines that the formatter joins again however they are broken: file and the line's beginning, with why.
-JOINED = {}
+# Lines that the formatter joins again however they are broken: the file's end and the line's beginning.
+JOINED = []
 
 
 def sources(root):
@@ -20,7 +20,7 @@ def sources(root):
 
 def long_lines(path, text):
     for number, line in enumerate(text.split("\n"), 1):
-        if len(line) > MOST and not any(path.as_posix().endswith(f) and line.strip().startswith(b) for f, b in JOINED):
+        if len(line) > MOST and not any(path.endswith(file) and line.strip().startswith(front) for file, front in JOINED):
             yield number, f"{len(line)} characters, above {MOST}"
 
 
@@ -38,7 +38,7 @@ def brought(line):
 
 def is_used(name, body):
     """Whether the body has the name; of an operator such as `_+_`, each of its symbols."""
-    if "_" in name and name.startswith("_") or name.endswith("_"):
+    if name.startswith("_") or name.endswith("_"):
         return all(part in body for part in name.split("_") if part)
     return re.search(r"(?<![\w′₀-₉·-])" + re.escape(name) + r"(?![\w′₀-₉·-])", body) is not None
 
@@ -54,17 +54,19 @@ def unused(text):
                     yield number, f"`{name}` is brought in and not used"
 
 
-def main():
-    root = pathlib.Path(sys.argv[1]) if len(sys.argv) > 1 else pathlib.Path(__file__).resolve().parent.parent
-    faults = 0
+def all_faults(root):
     for path in sources(root):
         text = path.read_text()
-        for number, fault in list(long_lines(path, text)) + list(unused(text)):
-            print(f"{path.relative_to(root)}:{number}: {fault}")
-            faults += 1
-    if faults:
-        sys.exit(f"tools/lines.py: {faults} faults")
-    print("tools/lines.py: no line is too long, and every name brought in is used")
+        for number, fault in [*long_lines(path.as_posix(), text), *unused(text)]:
+            yield f"{path.relative_to(root)}:{number}: {fault}"
 
 
-main()
+def main():
+    root = pathlib.Path(sys.argv[1]) if len(sys.argv) > 1 else pathlib.Path(__file__).resolve().parent.parent
+    faults = list(all_faults(root))
+    print("\n".join([*faults, f"{len(faults)} faults in the text of the sources"]))
+    sys.exit(1 if faults else 0)
+
+
+if __name__ == "__main__":
+    main()

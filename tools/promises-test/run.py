@@ -1,5 +1,6 @@
 #!/usr/bin/env python3
-"""The test of tools/promises.py: it finds no fault with the right project (right.py) and refuses each wrong source (wrong.py), for its own reason."""
+"""The test of tools/promises.py and tools/lines.py: they find no fault with the right project (right.py), or the right text, and refuse each wrong
+source (wrong.py), for its own reason."""
 import pathlib
 import sys
 import tempfile
@@ -7,6 +8,7 @@ import tempfile
 sys.dont_write_bytecode = True
 sys.path.insert(0, str(pathlib.Path(__file__).resolve().parent.parent))
 
+import lines
 import promises
 import right
 import wrong
@@ -56,6 +58,10 @@ def problems_in(root):
         if not any(fault in found for found in faults):
             yield f"{slip}: not refused as `{fault}`, but: {faults}"
     yield from (f"the right project once more: {fault}" for fault in faults_in(root))
+    for slip, text, fault in wrong.TEXTS:
+        found = [each for _, each in [*lines.long_lines("File.antt", text), *lines.unused(text)]]
+        if found != ([fault] if fault else []):
+            yield f"{slip}: found {found}"
 
 
 def main():
@@ -65,7 +71,7 @@ def main():
         print(problem)
     if problems:
         sys.exit(1)
-    print(f"{len(wrong.SOURCES) + len(wrong.LISTS)} wrong sources refused")
+    print(f"{len(wrong.SOURCES) + len(wrong.LISTS) + len(wrong.TEXTS)} sources judged")
 
 
 if __name__ == "__main__":

@@ -869,3 +869,19 @@ LISTS = [
     ("data that is a statement", {"data": []}, "no listed theorem proves `Pair`"),
     ("data that is not there", {"data": [("meter", "Pair"), ("meter", "More")]}, "DATA has `More`, which is not there"),
 ]
+
+# For tools/lines.py: what it is about, a file's text, and the one fault there, or none.
+TEXTS = [
+    ("a line of 160", "x" * 160 + "\n", ""),
+    ("a line of 161, counted in characters", "≡" * 161 + "\n", "161 characters, above 160"),
+    ("names that are used", "use lib.ListN.{take, drop}\nuse a.b as reads\nf = take (reads.x) drop\n", ""),
+    ("a name that is not used", "use lib.ListN.{take, drop}\nf = take\n", "`drop` is brought in and not used"),
+    ("a name used in a comment alone", "use lib.ListN.{take}\n-- take\nf = x\n", "`take` is brought in and not used"),
+    ("a part of a longer name", "use lib.ListN.{take}\nf = take-append\n", "`take` is brought in and not used"),
+    ("another name for it", "use lib.ListN.{take as front}\nf = take\n", "`front` is brought in and not used"),
+    ("another name for a module", "use a.b as reads\nf = x\n", "`reads` is brought in and not used"),
+    ("an operator that is used", "use Prim.Native.Nat.{_+_}\nf = x + y\n", ""),
+    ("an operator that is not used", "use Prim.Native.Nat.{_+_}\nf = x\n", "`_+_` is brought in and not used"),
+    ("Rattle: used", "ghost use lib.ListN.{length};\nuse refusal::Refusal;\nf(Refusal, length)\n", ""),
+    ("Rattle: not used", "use refusal::Refusal;\nf(refusal)\n", "`Refusal` is brought in and not used"),
+]
