@@ -54,7 +54,7 @@ fn one_round(w: Words, x: [u32; BLOCK_WORDS], r: usize) -> Words
 }
 
 // One block through the four rounds, added to the words before it.
-pub(crate) fn block(w: Words, x: [u32; BLOCK_WORDS]) -> Words
+fn block(w: Words, x: [u32; BLOCK_WORDS]) -> Words
     ensures { λ v. ⌜ v ≡ compress w x ⌝ }
 {
     let w0 = one_round(w, x, 0);
@@ -70,7 +70,7 @@ pub(crate) fn block(w: Words, x: [u32; BLOCK_WORDS]) -> Words
 }
 
 // The sixteen words of the block at byte `at`.
-pub(crate) fn words_of(s: &[u8], at: usize) -> [u32; BLOCK_WORDS]
+fn words_of(s: &[u8], at: usize) -> [u32; BLOCK_WORDS]
     requires { ⌜ at + blockSize ≤ length (now s) ⌝ }
     ensures { λ v. ⌜ v ≡ load (take blockSize (drop at (now (s .entry)))) ⌝ }
 {

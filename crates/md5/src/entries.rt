@@ -11,9 +11,7 @@ use crate::Digest;
 use crate::Fed;
 use crate::Finished;
 use crate::Words;
-use crate::block::block;
 use crate::block::whole_blocks;
-use crate::block::words_of;
 use refusal::Refusal;
 
 // The state after the words w and the bytes of s: whole blocks go through the block function, and what is left stays in the tail.
@@ -52,7 +50,7 @@ fn absorbed(d: Digest, piece: &[u8]) -> Digest
         };
     }
     octets::copy(&piece[..gap], &mut tail, used);
-    let first = block(words, words_of(&tail, 0));
+    let first = whole_blocks(words, &tail);
     settled(first, &piece[gap..], total)
 }
 

@@ -55,14 +55,11 @@ copy-requires-2 c κs = let b = c .before .before .before .before .before .befor
     let l = tail-long b in
     omega (arith, length-take-le (blockSize - b .args .d .total % blockSize) (b .args .piece .now) (omega arith))
 
-slice-aggregate-words-of : tie.Need-slice-aggregate-words-of
-slice-aggregate-words-of c = search needs
+slice-aggregate-whole-blocks : tie.Need-slice-aggregate-whole-blocks
+slice-aggregate-whole-blocks c = search needs
 
-words-of-requires : tie.Need-words-of-requires
-words-of-requires c κs = search needs
-
-block-requires : tie.Need-block-requires
-block-requires c κs = search needs
+whole-blocks-requires : tie.Need-whole-blocks-requires
+whole-blocks-requires c κs = search needs
 
 sub-settled : tie.Need-sub-settled
 sub-settled c = search needs
@@ -77,7 +74,7 @@ settled-requires : tie.Need-settled-requires
 settled-requires c κs = search needs
 
 returns-2 : tie.Need-returns-2
-returns-2 c = let b = c .before .before .before .before .before .before .before .before .before .before .before .before .before .before .before in
+returns-2 c = let b = c .before .before .before .before .before .before .before .before .before .before .before .before .before .before in
     let d = b .args .d in
     let s = b .args .piece .now in
     let l = tail-long b in
@@ -85,7 +82,7 @@ returns-2 c = let b = c .before .before .before .before .before .before .before 
     let gap : ℕ = blockSize - used in
     cc (
       absorb-long d l s gap (omega arith) (omega arith),
-      tail-full (d .tail) s used gap l (omega arith) (omega arith),
+      tail-full (d .tail) s used gap (d .words) l (omega arith) (omega arith),
       take-all (length s - gap) (drop gap s) (omega (arith, length-drop gap s)),
     )
 
@@ -105,9 +102,8 @@ absorbed-spec =
     slice-aggregate-copy-2
     slice-aggregate-copy-3
     copy-requires-2
-    slice-aggregate-words-of
-    words-of-requires
-    block-requires
+    slice-aggregate-whole-blocks
+    whole-blocks-requires
     sub-settled
     part-settled-start
     part-settled-end
