@@ -1,7 +1,8 @@
 pub mod Table
-pub mod Lists
+pub mod Rotations
+pub mod Blocks
 pub mod Absorb
+pub mod Answers
 pub mod Promises
 pub mod Limits
-pub mod Rotations
 pub mod Vectors

@@ -1,4 +1,5 @@
 pub mod Written
+pub mod Filled
 pub mod Starts
 pub mod Elements
 pub mod LowFirst

@@ -6,7 +6,7 @@ use native.Mathlib.Nat.{zero-add, pow-zero, pow-suc, div-lt-iff-lt-mul, mod-add-
 use native.Mathlib.Nat.{add-mul-mod-self-left, add-mul-div-left, div-eq-of-lt}
 use native.Mathlib.Omega.{arith}
 use lib.ListN.{length, take, drop, length-drop, take-append-drop}
-use lib.Seq.{drop-drop, take-at, drop-at, length-take-le}
+use lib.Seq.{drop-drop, take-at, drop-at, length-take-le, take-append-le, drop-append-le}
 use Rattle.octets.specs.Bytes.{Bytes}
 use Rattle.octets.specs.Numbers.{le, value, littleAt}
 use Rattle.octets.proofs.Elements.{bytes-take, bytes-drop}
@@ -75,3 +75,20 @@ number-in p q width x at e h =
 pub number-from : (s : List ℕ) (at more width : ℕ) → littleAt (drop at s) more width ≡ littleAt s (at + more) width
 unfolding littleAt
 number-from s at more width = ap (λ (l : List ℕ). value (take width l)) (drop-drop more at s)
+
+-- what stands behind the number does not matter
+pub number-append : (p q : List ℕ) (at width : ℕ) → at + width ≤ length p → littleAt (p ++ q) at width ≡ littleAt p at width
+unfolding littleAt
+number-append p q at width h =
+    let l : at ≤ length p = omega arith in
+    let m : width ≤ length (drop at p) = rw length-drop (omega arith) in
+    ap (λ (x : List ℕ). value (take width x)) (drop-append-le at p q l) ∙ ap value (take-append-le width (drop at p) q m)
+
+-- a number within a part
+pub number-part : (s : List ℕ) (a n at width : ℕ) → a + n ≤ length s → at + width ≤ n → littleAt (take n (drop a s)) at width ≡ littleAt s (a + at) width
+number-part s a n at width h k =
+    let d = drop a s in
+    let l : at + width ≤ length (take n d) = rw (length-take-le n d (rw length-drop (omega arith))) k in
+    sym (number-append (take n d) (drop n d) at width l)
+    ∙ ap (λ (x : List ℕ). littleAt x at width) (take-append-drop n d)
+    ∙ number-from s a at width

@@ -4,8 +4,8 @@ use Prim.Native.Nat.{ℕ, _+_, _-_, _≤_, _<_}
 use native.Mathlib.Nat.{add-assoc, add-zero, zero-add}
 use native.Mathlib.Numerals.{add-one}
 use native.Mathlib.Omega.{arith}
-use mathlib.Core.List.{List, [], _∷_, _++_, append-assoc}
-use lib.ListN.{length, take, drop, set, length-append, length-drop, take-append-drop}
+use mathlib.Core.List.{List, [], _∷_, _++_, append-assoc, append-nil}
+use lib.ListN.{length, take, drop, set, length-append, length-drop, take-append-drop, drop-of-length-le}
 use lib.Seq.{sets, sets-eq, length-take-le, take-all, take-append-le, take-append-add, drop-append-le, drop-append-add, take-at, drop-at, drop-drop, set-split}
 use Rattle.octets.specs.Bytes.{written}
 
@@ -171,3 +171,10 @@ copied-part at k new part old h e p =
     ap (λ (x : List ℕ). take at old ++ (x ++ drop k (drop at old))) w
     ∙ written-part at k 0 new old (omega arith) (omega arith)
     ∙ ap (λ (n : ℕ). written n new old) (add-zero at)
+
+-- a stretch up to the end: what stood before it, and the new elements
+pub written-last : (at : ℕ) (new old : List ℕ) → at + length new ≡ length old → written at new old ≡ take at old ++ new
+unfolding written
+written-last at new old h =
+    let k : length old ≤ at + length new = omega arith in
+    ap (λ (l : List ℕ). take at old ++ (new ++ l)) (drop-of-length-le old k) ∙ ap (λ (l : List ℕ). take at old ++ l) (append-nil new)

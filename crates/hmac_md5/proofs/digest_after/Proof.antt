@@ -10,9 +10,6 @@ use borrow.Author.Needs.{needs}
 use native.Mathlib.Omega.{arith}
 use Rattle.hmac_md5.proofs.digest_after.Statement.{statement}
 use Rattle.hmac_md5.proofs.digest_after.Tie as tie
-use Rattle.md5.proofs.Digest.begin.Reads as begin-reads
-use Rattle.md5.proofs.Digest.feed.Reads as feed-reads
-use Rattle.md5.proofs.Digest.finish.Reads as finish-reads
 
 block-length : (c : tie.Start) → length (c .args .t1) ≡ 64
 block-length c = search needs

@@ -2,13 +2,10 @@
 use mathlib.Core.Path.{_≡_, ap, _∙_}
 use Rattle.md5.specs.declared.Digest.{Digest}
 use Rattle.md5.specs.Entries.{fresh, feedOf}
-use Rattle.md5.proofs.Promises.{md5-fed-refused, md5-fed-taken}
+use Rattle.md5.proofs.Answers.{md5-fed-refused, md5-fed-taken}
 use borrow.Author.Needs.{needs}
-use Rattle.md5.proofs.md5.Statement.{statement}
-use Rattle.md5.proofs.md5.Tie as tie
-use Rattle.md5.proofs.Digest.begin.Reads as begin-reads
-use Rattle.md5.proofs.Digest.feed.Reads as feed-reads
-use Rattle.md5.proofs.Digest.finish.Reads as finish-reads
+use Rattle.md5.proofs.entries.md5.Statement.{statement}
+use Rattle.md5.proofs.entries.md5.Tie as tie
 
 begin-requires : tie.Need-begin-requires
 begin-requires c κs = search needs

@@ -1,10 +1,8 @@
 -- `md5::block` meets its contract: the calls, one after the other, are the text of `compress`.
 use Rattle.md5.specs.Block.{compress}
 use borrow.Author.Needs.{needs}
-use Rattle.md5.proofs.block.Statement.{statement}
-use Rattle.md5.proofs.block.Tie as tie
-use Rattle.md5.proofs.one_round.Reads as one-round-reads
-use Rattle.std.proofs.num.wrapping_add_u32.Reads as wrapping-add-u32-reads
+use Rattle.md5.proofs.block.block.Statement.{statement}
+use Rattle.md5.proofs.block.block.Tie as tie
 
 one-round-requires : tie.Need-one-round-requires
 one-round-requires c κs = search needs

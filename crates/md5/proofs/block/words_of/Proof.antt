@@ -1,0 +1,80 @@
+-- `md5::words_of` meets its contract: the first i words are filled.
+use Prim.Native.Nat.{ℕ, _-_, _*_, _≤_, _<_}
+use mathlib.Core.Path.{_≡_, refl, sym, _∙_}
+use native.Mathlib.Numerals.{add-one}
+use native.Mathlib.Omega.{arith}
+use lib.ListN.{length, take, drop, length-set}
+use lib.Seq.{take-suc-set, take-all}
+use Rattle.octets.specs.Numbers.{littleAt}
+use Rattle.octets.proofs.LowFirst.{number-part}
+use Rattle.md5.specs.Word.{blockWords}
+use Rattle.md5.specs.Block.{blockSize, loadTo, load}
+use Rattle.md5.proofs.block.words_of.Statement.{statement}
+use Rattle.md5.proofs.block.words_of.Tie as tie
+
+abbrev Inv-loop : tie.InvT-loop
+Inv-loop s at x₀ i₀ x i = (i ≤ blockWords) × (length x ≡ blockWords) × (take i x ≡ loadTo (take blockSize (drop at s)) i)
+
+abbrev μ-loop : tie.MeasureT-loop
+μ-loop s at x₀ i₀ x i = blockWords - i
+
+loop-holds : tie.Need-loop-holds Inv-loop μ-loop
+unfolding loadTo
+loop-holds c = (omega arith, refl, refl)
+
+mul-little : tie.Need-mul-little Inv-loop μ-loop
+mul-little c = omega arith
+
+add-little : tie.Need-add-little Inv-loop μ-loop
+add-little c = omega arith
+
+little-requires : tie.Need-little-requires Inv-loop μ-loop
+little-requires c κs = (omega arith, omega arith)
+
+cast-x : tie.Need-cast-x Inv-loop μ-loop
+cast-x c = omega arith
+
+mul-x : tie.Need-mul-x Inv-loop μ-loop
+mul-x c = omega arith
+
+array-write-x : tie.Need-array-write-x Inv-loop μ-loop
+array-write-x c = omega arith
+
+add-i : tie.Need-add-i Inv-loop μ-loop
+add-i c = omega arith
+
+loop-less : tie.Need-loop-less Inv-loop μ-loop
+loop-less c = omega arith
+
+loop-again : tie.Need-loop-again Inv-loop μ-loop
+unfolding loadTo
+loop-again c = let l = c .before .before .loop in
+    let a = c .before .before .before .before .args in
+    let h : l .i < length (l .x) = omega arith in
+    let e : c .little .result ≡ littleAt (take blockSize (drop (a .at) (a .s .now))) (4 * l .i) 4 =
+    c .little .ensures .0 ∙ sym (number-part (a .s .now) (a .at) blockSize (4 * l .i) 4 (omega arith) (omega arith)) in
+    (omega arith, simp length-set (omega arith), rw (add-one, take-suc-set, e, l .inv .2))
+
+returns : tie.Need-returns Inv-loop μ-loop
+unfolding load
+returns c = let l = c .before .loop in
+    let e : l .i ≡ blockWords = omega arith in
+    sym (take-all blockWords (l .x) (omega arith)) ∙ (rw e at (l .inv .2))
+
+pub words-of-spec : {M : Type 1} → statement M
+words-of-spec =
+    tie.close
+    (tie.spec
+    Inv-loop
+    μ-loop
+    loop-holds
+    mul-little
+    add-little
+    little-requires
+    cast-x
+    mul-x
+    array-write-x
+    add-i
+    loop-less
+    loop-again
+    returns)

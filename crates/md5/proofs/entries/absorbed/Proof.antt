@@ -1,0 +1,111 @@
+-- `md5::absorbed` meets its contract: the two cases of `absorb` (proofs/Absorb.antt).
+use Prim.Native.Nat.{ℕ, _+_, _-_, _%_}
+use mathlib.Core.Path.{_≡_, sym}
+use lib.ListN.{length, take, drop, length-drop}
+use lib.Seq.{length-take-le, take-all}
+use native.Mathlib.Omega.{arith}
+use Rattle.md5.specs.Block.{blockSize}
+use Rattle.md5.proofs.Absorb.{absorb-short, absorb-long, tail-short, tail-full}
+use borrow.Author.Needs.{needs}
+use Rattle.md5.proofs.entries.absorbed.Statement.{statement}
+use Rattle.md5.proofs.entries.absorbed.Tie as tie
+
+tail-long : (c : tie.Start) → length (c .args .d .tail) ≡ blockSize
+tail-long c = search needs
+
+add-total : tie.Need-add-total
+add-total c = search needs
+
+sub-gap : tie.Need-sub-gap
+sub-gap c = search needs
+
+slice-aggregate-copy : tie.Need-slice-aggregate-copy
+slice-aggregate-copy c = search needs
+
+copy-requires : tie.Need-copy-requires
+copy-requires c κs = let l = tail-long (c .before .before .before .before .before .before .before) in omega arith
+
+slice-aggregate-clear : tie.Need-slice-aggregate-clear
+slice-aggregate-clear c = search needs
+
+add-clear : tie.Need-add-clear
+add-clear c = search needs
+
+sub-clear : tie.Need-sub-clear
+sub-clear c = search needs
+
+clear-requires : tie.Need-clear-requires
+clear-requires c κs = search needs
+
+returns : tie.Need-returns
+returns c = let b = c .before .before .before .before .before .before .before .before .before .before .before .before in
+    let d = b .args .d in
+    let s = b .args .piece .now in
+    let l = tail-long b in
+    cc (absorb-short d l s (omega arith), tail-short (d .tail) s (d .total % blockSize) l (omega arith))
+
+slice-aggregate-copy-2 : tie.Need-slice-aggregate-copy-2
+slice-aggregate-copy-2 c = sym (length-take-le _ _ (omega arith))
+
+slice-aggregate-copy-3 : tie.Need-slice-aggregate-copy-3
+slice-aggregate-copy-3 c = search needs
+
+copy-requires-2 : tie.Need-copy-requires-2
+copy-requires-2 c κs = let b = c .before .before .before .before .before .before .before .before in
+    let l = tail-long b in
+    omega (arith, length-take-le (blockSize - b .args .d .total % blockSize) (b .args .piece .now) (omega arith))
+
+slice-aggregate-whole-blocks : tie.Need-slice-aggregate-whole-blocks
+slice-aggregate-whole-blocks c = search needs
+
+whole-blocks-requires : tie.Need-whole-blocks-requires
+whole-blocks-requires c κs = search needs
+
+sub-settled : tie.Need-sub-settled
+sub-settled c = search needs
+
+part-settled-start : tie.Need-part-settled-start
+part-settled-start c = search needs
+
+part-settled-end : tie.Need-part-settled-end
+part-settled-end c = search needs
+
+settled-requires : tie.Need-settled-requires
+settled-requires c κs = search needs
+
+returns-2 : tie.Need-returns-2
+returns-2 c = let b = c .before .before .before .before .before .before .before .before .before .before .before .before .before .before in
+    let d = b .args .d in
+    let s = b .args .piece .now in
+    let l = tail-long b in
+    let used : ℕ = d .total % blockSize in
+    let gap : ℕ = blockSize - used in
+    cc (
+      absorb-long d l s gap (omega arith) (omega arith),
+      tail-full (d .tail) s used gap (d .words) l (omega arith) (omega arith),
+      take-all (length s - gap) (drop gap s) (omega (arith, length-drop gap s)),
+    )
+
+pub absorbed-spec : {M : Type 1} → statement M
+absorbed-spec =
+    tie.close
+    (tie.spec
+    add-total
+    sub-gap
+    slice-aggregate-copy
+    copy-requires
+    slice-aggregate-clear
+    add-clear
+    sub-clear
+    clear-requires
+    returns
+    slice-aggregate-copy-2
+    slice-aggregate-copy-3
+    copy-requires-2
+    slice-aggregate-whole-blocks
+    whole-blocks-requires
+    sub-settled
+    part-settled-start
+    part-settled-end
+    settled-requires
+    returns-2)
