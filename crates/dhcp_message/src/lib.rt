@@ -4,10 +4,10 @@
 use refusal::Refusal;
 ghost use mathlib.Core.Path.{_≡_};
 ghost use Prim.Native.Nat.{_+_, _<_, _≤_, _^_};
-ghost use lib.ListN.{length, getD, take, drop};
-ghost use Rattle.dhcp_message.specs.Layout.{cookieAt, headerSize, magicCookie, methodAt, macAt, macSize, fullSize, delayed};
+ghost use lib.ListN.{length, getD, drop};
+ghost use Rattle.dhcp_message.specs.Layout.{cookieAt, headerSize, magicCookie, optionHead, lengthAt, methodAt, counterAt};
+ghost use Rattle.dhcp_message.specs.Layout.{macAt, macSize, fullSize, delayed};
 ghost use Rattle.octets.specs.Bytes.{written, zeros, starts};
-ghost use Rattle.dhcp_message.specs.Bytes.{be16, be32, be64, bytes32};
 ghost use Rattle.dhcp_message.specs.Said.{saidBy, formSaid, formOf};
 ghost use Rattle.dhcp_message.specs.Image.{headZero, coverFits, coverSize, coverLeft};
 ghost use Rattle.dhcp_message.specs.Scan.{hereAt, seenOf, scanOf, shapeFound, shapeOf};
@@ -56,7 +56,11 @@ const REPLAY_METHOD_AT: usize = 4;
 
 pub const COUNTER_AT: usize = 5;
 
+const COUNTER_SIZE: usize = 8;
+
 const SECRET_ID_AT: usize = 13;
+
+const SECRET_ID_SIZE: usize = 4;
 
 pub const MAC_AT: usize = 17;
 
@@ -293,35 +297,8 @@ fn shape_of(message: &[u8]) -> Shape
     }
 }
 
-fn wide(x: u8) -> u32
-    ensures { λ r. ⌜ (r ≡ x) × (r < 256) ⌝ }
-{
-    x as u32
-}
-
-fn get16(message: &[u8], at: usize) -> u32
-    requires { ⌜ at + 2 ≤ length (now message) ⌝ }
-    ensures { λ r. ⌜ (r ≡ be16 (now (message .entry)) at) × (r < 65536) ⌝ }
-{
-    wide(message[at]) * 256 + wide(message[at + 1])
-}
-
-fn get32(message: &[u8], at: usize) -> u32
-    requires { ⌜ at + 4 ≤ length (now message) ⌝ }
-    ensures { λ r. ⌜ r ≡ be32 (now (message .entry)) at ⌝ }
-{
-    get16(message, at) * 65536 + get16(message, at + 2)
-}
-
-fn get64(message: &[u8], at: usize) -> u64
-    requires { ⌜ at + 8 ≤ length (now message) ⌝ }
-    ensures { λ r. ⌜ r ≡ be64 (now (message .entry)) at ⌝ }
-{
-    (get32(message, at) as u64) * 4294967296 + (get32(message, at + 4) as u64)
-}
-
 fn is_delayed(message: &[u8], at: usize) -> bool
-    requires { ⌜ at + 5 ≤ length (now message) ⌝ }
+    requires { ⌜ at + counterAt ≤ length (now message) ⌝ }
     ensures { λ r. ⌜ r ≡ starts delayed (drop (at + methodAt) (now (message .entry))) ⌝ }
 {
     if message[at + PROTOCOL_AT] != PROTOCOL {
@@ -335,15 +312,15 @@ fn is_delayed(message: &[u8], at: usize) -> bool
 
 // Checks 8 and 9, of an option 90 that is whole.
 fn form_at(message: &[u8], p: Places) -> Form
-    requires { ⌜ p .at + 2 + getD (now message) (p .at + 1) 0 ≤ length (now message) ⌝ }
+    requires { ⌜ p .at + optionHead + getD (now message) (p .at + lengthAt) 0 ≤ length (now message) ⌝ }
     ensures { λ r. ⌜ r ≡ formSaid p (saidBy (drop (p .at) (now (message .entry)))) ⌝ }
 {
     let at = p.at;
     let len = message[at + LENGTH_AT];
     if len == FULL_LENGTH {
         if is_delayed(message, at) {
-            let counter = get64(message, at + COUNTER_AT);
-            let id = get32(message, at + SECRET_ID_AT);
+            let counter = octets::big(message, at + COUNTER_AT, COUNTER_SIZE);
+            let id = octets::big(message, at + SECRET_ID_AT, SECRET_ID_SIZE) as u32;
             return Form::Full(Auth {
                 at,
                 counter,
@@ -394,67 +371,33 @@ fn covers(size: usize, room: usize, auth: Auth) -> bool
     auth.at <= left - FULL_SIZE
 }
 
-// Copies count bytes of message, from an offset on, to out.
-fn copy(message: &[u8], from: usize, count: usize, out: &mut [u8], at: usize)
-    requires { ⌜ from + count ≤ length (now message) ⌝ }
-    requires { ⌜ at + count ≤ length (now out) ⌝ }
-    ensures { λ _. ⌜ now (out .exit) ≡ written at (take count (drop from (now (message .entry)))) (now (out .entry)) ⌝ }
-{
-    let mut n: usize = 0;
-    while n < count {
-        out[at + n] = message[from + n];
-        n = n + 1;
-    }
-}
-
-// Sets count bytes of out, from an offset on, to 0.
-fn clear(out: &mut [u8], at: usize, count: usize)
-    requires { ⌜ at + count ≤ length (now out) ⌝ }
-    ensures { λ _. ⌜ now (out .exit) ≡ written at (zeros count) (now (out .entry)) ⌝ }
-{
-    let mut n: usize = 0;
-    while n < count {
-        out[at + n] = 0;
-        n = n + 1;
-    }
-}
-
 // Sets hops, giaddr and the MAC of an option 90 at an offset to 0.
 fn blank(out: &mut [u8], at: usize)
     requires { ⌜ at + fullSize ≤ length (now out) ⌝ }
     ensures { λ _. ⌜ now (out .exit) ≡ written (at + macAt) (zeros macSize) (headZero (now (out .entry))) ⌝ }
 {
-    clear(out, HOPS_AT, HOPS_SIZE);
-    clear(out, GIADDR_AT, GIADDR_SIZE);
-    clear(out, at + MAC_AT, MAC_SIZE);
+    octets::clear(out, HOPS_AT, HOPS_SIZE);
+    octets::clear(out, GIADDR_AT, GIADDR_SIZE);
+    octets::clear(out, at + MAC_AT, MAC_SIZE);
 }
 
 // Writes the covered image of a message to the front of out and returns its length; 0, and out as it was, where the offsets or the room
 // don't fit.
 pub fn cover(message: &[u8], auth: Auth, out: &mut [u8]) -> usize
-    ensures { λ r. ⌜ (r ≡ coverSize (now (message .entry)) auth (now (out .entry))) × (now (out .exit) ≡ coverLeft (now (message .entry)) auth (now (out .entry))) ⌝ }
+    ensures { λ r. ⌜
+        (r ≡ coverSize (now (message .entry)) auth (now (out .entry)))
+        × (now (out .exit) ≡ coverLeft (now (message .entry)) auth (now (out .entry)))
+        ⌝ }
 {
     if !covers(message.len(), out.len(), auth) {
         return 0;
     }
     let cut = auth.cut;
     let next = cut + auth.gap;
-    let rest = message.len() - next;
-    copy(message, 0, cut, out, 0);
-    copy(message, next, rest, out, cut);
+    octets::copy(&message[..cut], out, 0);
+    octets::copy(&message[next..], out, cut);
     blank(out, auth.at);
-    cut + rest
-}
-
-// Writes a number as four bytes.
-fn put32(part: &mut [u8], at: usize, x: u32)
-    requires { ⌜ at + 4 ≤ length (now part) ⌝ }
-    ensures { λ _. ⌜ now (part .exit) ≡ written at (bytes32 x) (now (part .entry)) ⌝ }
-{
-    part[at] = (x / 16777216 % 256) as u8;
-    part[at + 1] = (x / 65536 % 256) as u8;
-    part[at + 2] = (x / 256 % 256) as u8;
-    part[at + 3] = (x % 256) as u8;
+    message.len() - auth.gap
 }
 
 // Writes counter and secret id to the part of option 90 that a seal writes; a part of another size is left as it is.
@@ -464,9 +407,8 @@ pub fn put_fields(part: &mut [u8], counter: u64, id: u32)
     if part.len() != SEAL_SIZE {
         return;
     }
-    put32(part, 0, (counter / 4294967296) as u32);
-    put32(part, 4, (counter % 4294967296) as u32);
-    put32(part, 8, id);
+    octets::put_big(part, 0, COUNTER_SIZE, counter);
+    octets::put_big(part, COUNTER_SIZE, SECRET_ID_SIZE, id as u64);
 }
 
 // Writes the MAC there.
@@ -476,5 +418,5 @@ pub fn put_mac(part: &mut [u8], mac: [u8; MAC_SIZE])
     if part.len() != SEAL_SIZE {
         return;
     }
-    copy(&mac, 0, MAC_SIZE, part, FIELDS_SIZE);
+    octets::copy(&mac, part, FIELDS_SIZE);
 }

@@ -14,20 +14,23 @@ shared-slice-read-len c = search needs
 is-delayed-requires : tie.Need-is-delayed-requires
 is-delayed-requires c κs = search needs
 
-add-get64 : tie.Need-add-get64
-add-get64 c = search needs
+add-big : tie.Need-add-big
+add-big c = search needs
 
-get64-requires : tie.Need-get64-requires
-get64-requires c κs = search needs
+big-requires : tie.Need-big-requires
+big-requires c κs = search needs
 
-add-get32 : tie.Need-add-get32
-add-get32 c = search needs
+add-big-2 : tie.Need-add-big-2
+add-big-2 c = search needs
 
-get32-requires : tie.Need-get32-requires
-get32-requires c κs = search needs
+big-requires-2 : tie.Need-big-requires-2
+big-requires-2 c κs = search needs
+
+cast-id : tie.Need-cast-id
+cast-id c = search needs
 
 returns : tie.Need-returns
-returns c = form-full (now (c .before .before .before .before .before .before .before .args .message)) (c .before .before .before .before .before .before .before .args .p) _ _ _ (search needs) (c .before .before .before .is-delayed .ensures) (search needs) (search needs) (search needs)
+returns c = form-full (now (c .before .before .before .before .before .before .before .args .message)) (c .before .before .before .before .before .before .before .args .p) _ _ _ (search needs) (c .before .before .before .is-delayed .ensures) (search needs) (c .before .big .ensures .0) (c .big2 .ensures .0)
 
 returns-2 : tie.Need-returns-2
 returns-2 c = form-other (now (c .before .before .before .before .before .args .message)) (c .before .before .before .before .before .args .p) _ (search needs) (c .before .is-delayed .ensures) (search needs)
@@ -51,10 +54,11 @@ form-at-spec =
     add-len
     shared-slice-read-len
     is-delayed-requires
-    add-get64
-    get64-requires
-    add-get32
-    get32-requires
+    add-big
+    big-requires
+    add-big-2
+    big-requires-2
+    cast-id
     returns
     returns-2
     is-delayed-requires-2

@@ -20,7 +20,7 @@ same-length c = search needs
 returns-2 : tie.Need-returns-2
 returns-2 c =
     let a = c .before .before .before .before .before .before .before in
-    mac-put (now (a .args .part)) (a .args .t2) _ (search needs) (a .good .1 .0 .1 .0 .1) (c .before .before .copy .ensures)
+    mac-put (now (a .args .part)) (a .args .t2) _ (search needs) (c .before .before .copy .ensures)
 
 pub put-mac-spec : {M : Type 1} → statement M
 put-mac-spec =
