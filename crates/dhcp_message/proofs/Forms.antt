@@ -19,11 +19,11 @@ use Rattle.dhcp_message.specs.Options.{Token}
 use Rattle.dhcp_message.specs.Message.{optionOf, offsetOf, Checked, stopped, passed, checkedOf}
 use Rattle.dhcp_message.specs.Said.{Said, says, saidFor, saidBy, placesOf, authOf, formSaid, formIn, formOf}
 use Rattle.dhcp_message.specs.Scan.{shapeIn, shapeOf}
-use Rattle.dhcp_message.specs.declared.Places.{Places}
+use Rattle.dhcp_message.specs.declared.scan.Places.{Places}
 use Rattle.dhcp_message.specs.declared.Auth.{Auth}
 use Rattle.dhcp_message.specs.declared.Form.{Form}
 use Rattle.dhcp_message.specs.declared.Form.the-variants.{Refused, Full}
-use Rattle.dhcp_message.specs.declared.Shape.the-variants.{Refused as SRefused, Passed as SPassed}
+use Rattle.dhcp_message.specs.declared.scan.Shape.the-variants.{Refused as SRefused, Passed as SPassed}
 use Rattle.octets.proofs.Starts.{starts-append}
 use Rattle.octets.proofs.HighFirst.{big-from, big-append}
 use Rattle.dhcp_message.proofs.Passing.{Passing, passing, option-is, from-option, inside, split-90}

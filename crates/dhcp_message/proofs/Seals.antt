@@ -20,7 +20,7 @@ use Rattle.dhcp_message.specs.Message.{count, optionOf, tokensBefore, of
 use Rattle.dhcp_message.specs.Said.{Said, refused, says, saidFor, saidBy, saidIn, saidOf, idOf, named, placesOf, authOf, formSaid, formIn, formOf, formSays, formNames, FormSays}
 use Rattle.dhcp_message.specs.Image.{without, macZero, headZero, imageIn, imageOf, coverFits, coverBytes, coverSize, coverLeft}
 use Rattle.dhcp_message.specs.Seal.{fields, fieldsPut, macPut, sealedWith, withFields, FullForm, Sealed, SealLaws}
-use Rattle.dhcp_message.specs.declared.Places.{Places}
+use Rattle.dhcp_message.specs.declared.scan.Places.{Places}
 use Rattle.dhcp_message.specs.declared.Auth.{Auth}
 use Rattle.dhcp_message.specs.declared.Form.{Form}
 use Rattle.dhcp_message.specs.declared.Form.the-variants.{Refused, Full}

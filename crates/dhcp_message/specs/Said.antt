@@ -16,7 +16,7 @@ use Rattle.octets.specs.Bytes.{starts}
 use Rattle.octets.specs.Numbers.{bigAt}
 use Rattle.dhcp_message.specs.Options.{Token}
 use Rattle.dhcp_message.specs.Message.{optionOf, offsetOf, Checked, stopped, passed, checkedOf}
-use Rattle.dhcp_message.specs.declared.Places.{Places}
+use Rattle.dhcp_message.specs.declared.scan.Places.{Places}
 use Rattle.dhcp_message.specs.declared.Auth.{Auth}
 use Rattle.dhcp_message.specs.declared.Form.{Form}
 use Rattle.dhcp_message.specs.declared.Form.the-variants.{Refused, Full}
