@@ -9,13 +9,13 @@ use Prim.Native.Nat.{ℕ, _+_, _-_, _^_, _≤_, _<_}
 use native.Mathlib.Omega.{arith}
 use borrow.Author.Tests.{eq-eqb, ne-eqb, eqb-false}
 use lib.Dec.{eqb}
-use lib.ListN.{length, getD, take, drop, length-append, length-drop}
+use lib.ListN.{length, getD, take, drop, length-drop}
 use lib.Seq.{length-take-le}
 use Rattle.refusal.specs.declared.Refusal.{Refusal}
 use Rattle.refusal.specs.declared.Refusal.the-variants.{UnsoundBook, UnknownSecret, CounterSpent}
 use Rattle.hmac_md5.specs.Hmac.{hmac}
 use Rattle.octets.specs.Bytes.{written, zeros}
-use Rattle.dhcp_message.specs.Bytes.{be32}
+use Rattle.octets.specs.Numbers.{bigAt}
 use Rattle.dhcp_message.specs.Said.{formOf}
 use Rattle.dhcp_message.specs.Image.{imageOf}
 use Rattle.dhcp_message.specs.Seal.{fields, fieldsPut, macPut, sealedWith, withFields}
@@ -135,14 +135,19 @@ module _ (m : List ℕ) (a : Auth) (c id : ℕ) (full : formOf m ≡ Full a) (hc
   inside : a .at + 5 + 28 ≤ length m
   inside = omega (arith, full-form m a full .inside)
 
+  -- the MAC that stands there, behind the new counter and id
+  abbrev stale : List ℕ
+  stale = take 16 (drop (a .at + 5 + 12) m)
+
+  stale-size : length stale ≡ 16
+  stale-size = length-take-le 16 (drop (a .at + 5 + 12) m) (omega (arith, length-drop (a .at + 5 + 12) m, inside))
+
   old : List ℕ
-  old = fields c id ++ take 16 (drop (a .at + 5 + 12) m)
+  old = fields c id ++ stale
 
   length-old : length old ≡ 28
   unfolding old
-  length-old =
-      length-append (fields c id) (take 16 (drop (a .at + 5 + 12) m))
-      ∙ omega (arith, length-take-le 16 (drop (a .at + 5 + 12) m) (omega (arith, length-drop (a .at + 5 + 12) m, inside)))
+  length-old = seal-laws .seal-size c id stale stale-size
 
   fielded-sealed : fielded ≡ sealedWith a old m
   unfolding fielded old
@@ -156,14 +161,14 @@ module _ (m : List ℕ) (a : Auth) (c id : ℕ) (full : formOf m ≡ Full a) (hc
   fielded-form =
       ap formOf fielded-sealed
       ∙ seal-laws .seals m a old full length-old .form
-      ∙ ap (λ (n : ℕ). Full (withFields a n (be32 old 8))) (seal-laws .counter-read c id (take 16 (drop (a .at + 5 + 12) m)) hc)
-      ∙ ap (λ (n : ℕ). Full (withFields a c n)) (seal-laws .id-read c id (take 16 (drop (a .at + 5 + 12) m)) hi)
+      ∙ ap (λ (n : ℕ). Full (withFields a n (bigAt old 8 4))) (seal-laws .counter-read c id stale hc)
+      ∙ ap (λ (n : ℕ). Full (withFields a c n)) (seal-laws .id-read c id stale hi)
 
   fielded-image : imageOf fielded ≡ imageOf (sealedWith a (fields c id ++ zeros 16) m)
   unfolding old
   fielded-image =
       ap imageOf fielded-sealed
-      ∙ seal-laws .seals m a old full length-old .image (fields c id ++ zeros 16) refl refl
+      ∙ seal-laws .any-mac m a c id stale (zeros 16) full stale-size refl
 
   pub fields-left : (size : ℕ) → size ≡ 28
       → take (a .at + 5) m ++ (fieldsPut (take size (drop (a .at + 5) m)) c id ++ drop size (drop (a .at + 5) m)) ≡ fielded

@@ -4,6 +4,7 @@ use native.Mathlib.Omega.{arith}
 use mathlib.Core.Path.{_≡_, refl, sym, ap, _∙_}
 use mathlib.Core.Bool.{true}
 use mathlib.Core.List.{List}
+use Rattle.octets.specs.Numbers.{bigAt}
 use Rattle.refusal.specs.Number.{numberOf}
 use Rattle.refusal.specs.declared.Refusal.{Refusal}
 use Rattle.refusal.specs.declared.Refusal.the-variants.{WrongCookie}
@@ -36,11 +37,11 @@ on-b-refused m r e = on-b m (refused r) e
 
 -- the two messages of example 8
 says-8 : saidOf (wrongMac 11 8) ≡ says 11 8 someMac
-unfolding saidOf saidBy checkedOf checkedTokens decodeAt
+unfolding saidOf saidBy checkedOf checkedTokens decodeAt bigAt
 says-8 = refl
 
 says-7 : saidOf (wrongMac 10 7) ≡ says 10 7 someMac
-unfolding saidOf saidBy checkedOf checkedTokens decodeAt
+unfolding saidOf saidBy checkedOf checkedTokens decodeAt bigAt
 says-7 = refl
 
 unknown-8 : numberOnB (wrongMac 11 8) ≡ 10

@@ -13,13 +13,14 @@ use Rattle.dhcp_message.specs.Relay.{RelayChange, added, replaced, remov
 use Rattle.dhcp_message.specs.Seal.{fieldsPut, macPut}
 use Rattle.dhcp_message.specs.Bench.{BenchExamples, distinctOf, distinct, LayoutPinned}
 use Rattle.octets.specs.Bytes.{upFrom}
+use Rattle.octets.specs.Numbers.{be, bigAt}
 
 bytes-zeros : (n : ℕ) → Bytes (zeros n)
 bytes-zeros zero = tt
 bytes-zeros (suc n) = (omega arith, bytes-zeros n)
 
 pub bench-examples : BenchExamples
-unfolding saidOf checkedOf checkedTokens decodeAt saidBy
+unfolding saidOf checkedOf checkedTokens decodeAt saidBy bigAt
 bench-examples = record {
   example-3-short = refl;
   example-3-long = refl;
@@ -62,7 +63,7 @@ options-read : Reads (drop 240 distinct) options (82 ∷ 0 ∷ [])
 options-read = ((omega arith, omega arith, omega arith, (omega arith, omega arith, omega arith, (omega arith, omega arith, omega arith, tt))), refl)
 
 pub layout-pinned : LayoutPinned
-unfolding saidOf formOf checkedOf checkedTokens decodeAt saidBy imageOf coverFits coverSize written fieldsPut macPut
+unfolding saidOf formOf checkedOf checkedTokens decodeAt saidBy imageOf coverFits coverSize written fieldsPut macPut be bigAt
 layout-pinned = record {
   form = refl;
   said = refl;

@@ -178,3 +178,8 @@ unfolding written
 written-last at new old h =
     let k : length old ≤ at + length new = omega arith in
     ap (λ (l : List ℕ). take at old ++ (new ++ l)) (drop-of-length-le old k) ∙ ap (λ (l : List ℕ). take at old ++ l) (append-nil new)
+
+-- at the front of a list
+pub written-front : (new old : List ℕ) → written 0 new old ≡ new ++ drop (length new) old
+unfolding written
+written-front new old = ap (λ (n : ℕ). new ++ drop n old) (zero-add (length new))

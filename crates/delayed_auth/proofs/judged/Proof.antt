@@ -7,7 +7,6 @@ use borrow.Author.Needs.{needs}
 use Rattle.delayed_auth.proofs.judged.Statement.{statement}
 use Rattle.delayed_auth.proofs.judged.Tie as tie
 use Rattle.delayed_auth.proofs.judged_full.Reads as judged-full-reads
-use Rattle.dhcp_message.proofs.form_of.Reads as form-of-reads
 use Rattle.key_book.proofs.is_sound.Reads as is-sound-reads
 
 is-sound-requires : tie.Need-is-sound-requires

@@ -8,7 +8,6 @@ use Rattle.delayed_auth.proofs.Judging.{key-unsound, key-form, key-row}
 use borrow.Author.Needs.{needs}
 use Rattle.delayed_auth.proofs.named_row.Statement.{statement}
 use Rattle.delayed_auth.proofs.named_row.Tie as tie
-use Rattle.dhcp_message.proofs.form_of.Reads as form-of-reads
 use Rattle.key_book.proofs.is_sound.Reads as is-sound-reads
 use Rattle.key_book.proofs.row_of.Reads as row-of-reads
 

@@ -9,7 +9,6 @@ use borrow.Author.Needs.{needs}
 use native.Mathlib.Omega.{arith}
 use Rattle.delayed_auth.proofs.planned.Statement.{statement}
 use Rattle.delayed_auth.proofs.planned.Tie as tie
-use Rattle.dhcp_message.proofs.form_of.Reads as form-of-reads
 use Rattle.key_book.proofs.is_sound.Reads as is-sound-reads
 use Rattle.key_book.proofs.row_of.Reads as row-of-reads
 

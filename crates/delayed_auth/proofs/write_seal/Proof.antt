@@ -14,8 +14,6 @@ use native.Mathlib.Omega.{arith}
 use Rattle.delayed_auth.proofs.write_seal.Statement.{statement}
 use Rattle.delayed_auth.proofs.write_seal.Tie as tie
 use Rattle.delayed_auth.proofs.mac_of.Reads as mac-of-reads
-use Rattle.dhcp_message.proofs.put_fields.Reads as put-fields-reads
-use Rattle.dhcp_message.proofs.put_mac.Reads as put-mac-reads
 
 add-from : tie.Need-add-from
 add-from c = let s = c .before .before .before in
