@@ -6,66 +6,55 @@ use Prim.Native.Nat.{ℕ, zero, suc, _+_, _≤_, _<_}
 use native.Mathlib.Omega.{arith}
 use mathlib.Core.Bool.{Bool, true, false, cond}
 use mathlib.Core.List.{List, [], _∷_, _++_}
+use mathlib.Core.Option.{Option, none, some}
 use lib.ListN.{length, drop}
 use lib.Dec.{ltb, eqb}
 use borrow.Author.Tests.{ltb-true, ltb-false, eqb-true, eqb-false}
 use Rattle.refusal.specs.Number.{numberOf, done}
+use Rattle.refusal.specs.Lowest.{NothingBelow, Lowest}
 use Rattle.refusal.specs.declared.Refusal.{Refusal}
-use Rattle.refusal.proofs.Names.{nameOf, named-back, numbers-tell}
-use Rattle.refusal.specs.declared.Refusal.the-variants.{UnsoundBook, MessageSize, WrongCookie, BrokenOptions, NoAuthentication, RepeatedAuthentication, RelayInformation, OtherAuthentication, RequestForm, UnknownSecret, Replay, WrongMac, CounterSpent, TooLong, MalformedCard, NoRoomForCard, NoRoomForRows}
+use Rattle.refusal.proofs.Names.{numbers-tell}
+use Rattle.refusal.proofs.Lowest.{nothing-more, Right, lowest}
+use Rattle.refusal.specs.declared.Refusal.the-variants.{MessageSize, WrongCookie, BrokenOptions, NoAuthentication, RepeatedAuthentication}
+use Rattle.refusal.specs.declared.Refusal.the-variants.{RelayInformation, OtherAuthentication, RequestForm}
 use Rattle.dhcp_message.specs.Layout.{magicCookie, delayed}
 use Rattle.octets.specs.Bytes.{Bytes, starts}
 use Rattle.dhcp_message.specs.Options.{Token, opt, Parsed, cut, parsed, decode, Reads}
 use Rattle.dhcp_message.specs.Message.{count, optionOf, onlyPads, isLast, Checked, stopped, passed, checkedTokens, checkedParsed, checkedOf, Passed}
 use Rattle.dhcp_message.specs.Said.{refused, says, saidFor, saidBy, placesOf, formSaid, formIn, formOf, formNumber}
-use Rattle.dhcp_message.specs.Numbers.{OnlyPads, WhereRead, Has, RelayWrong, OtherForm, RequestBytes, Applies, NoneBelow, LowestGiven}
+use Rattle.dhcp_message.specs.Numbers.{OnlyPads, WhereRead, Has, RelayWrong, OtherForm, LowestGiven, Applies, wrong-size}
+use Rattle.dhcp_message.specs.Numbers.{wrong-cookie, broken-options, no-authentication, repeated-authentication, relay-wrong}
+use Rattle.dhcp_message.specs.Numbers.{other-form, request-form}
 use Rattle.dhcp_message.specs.declared.Auth.{Auth}
 use Rattle.dhcp_message.specs.declared.Form.{Form}
 use Rattle.dhcp_message.specs.declared.Form.the-variants.{Refused, Full}
-use Rattle.octets.proofs.Starts.{starts-true, starts-taken}
+use Rattle.octets.proofs.Starts.{starts-true, starts-not}
 use Rattle.octets.proofs.Elements.{bytes-drop}
 use Rattle.dhcp_message.proofs.Decoding.{decode-reads, reads-decode}
 use Rattle.dhcp_message.proofs.Tokens.{Split, split, count-split, option-there, last-there, last-none, pads-true, pads-false}
 use Rattle.dhcp_message.proofs.Passing.{Passing, passing, split-90, option-is}
 
--- ---- the order of the refusals
+-- ---- which numbers the message alone decides
 
--- none is below 2, and one that doesn't apply makes it one more
-none-below-2 : (m : List ℕ) → NoneBelow 2 m
-none-below-2 m k h a = subst (λ (k : Refusal). Applies k m) (sym (named-back k) ∙ small (numberOf k) h) a
-  where
-    small : (n : ℕ) → n < 2 → nameOf n ≡ UnsoundBook
-    small zero h = refl
-    small (suc zero) h = refl
-    small (suc (suc n)) h = absurd (omega arith)
+pub applies-within : (m : List ℕ) (r : Refusal) → Applies m r → (2 ≤ numberOf r) × (numberOf r ≤ 9)
+applies-within m r (wrong-size h) = omega arith
+applies-within m r (wrong-cookie h) = omega arith
+applies-within m r (broken-options h) = omega arith
+applies-within m r (no-authentication h) = omega arith
+applies-within m r (repeated-authentication h) = omega arith
+applies-within m r (relay-wrong h) = omega arith
+applies-within m r (other-form h) = omega arith
+applies-within m r (request-form h) = omega arith
 
-none-more : (m : List ℕ) (r : Refusal) → NoneBelow (numberOf r) m → (Applies r m → ⊥) → NoneBelow (numberOf r + 1) m
-none-more m r h n k l a = by (ltb (numberOf k) (numberOf r)) refl
-  where
-    by : (t : Bool) → ltb (numberOf k) (numberOf r) ≡ t → ⊥
-    by true e = h k (ltb-true (numberOf k) (numberOf r) e) a
-    by false e =
-        let g = ltb-false (numberOf k) (numberOf r) e in
-        n (subst (λ (k : Refusal). Applies k m) (numbers-tell .apart k r (omega arith)) a)
+-- nothing that applies to the message has a number below n
+abbrev Below : List ℕ → ℕ → Type 0
+Below m n = NothingBelow (Applies m) n
 
-none-at-all : (m : List ℕ) → NoneBelow 10 m → (k : Refusal) → Applies k m → ⊥
-none-at-all m h UnsoundBook a = a
-none-at-all m h MessageSize a = h MessageSize (omega arith) a
-none-at-all m h WrongCookie a = h WrongCookie (omega arith) a
-none-at-all m h BrokenOptions a = h BrokenOptions (omega arith) a
-none-at-all m h NoAuthentication a = h NoAuthentication (omega arith) a
-none-at-all m h RepeatedAuthentication a = h RepeatedAuthentication (omega arith) a
-none-at-all m h RelayInformation a = h RelayInformation (omega arith) a
-none-at-all m h OtherAuthentication a = h OtherAuthentication (omega arith) a
-none-at-all m h RequestForm a = h RequestForm (omega arith) a
-none-at-all m h UnknownSecret a = a
-none-at-all m h Replay a = a
-none-at-all m h WrongMac a = a
-none-at-all m h CounterSpent a = a
-none-at-all m h TooLong a = a
-none-at-all m h MalformedCard a = a
-none-at-all m h NoRoomForCard a = a
-none-at-all m h NoRoomForRows a = a
+none-below-2 : (m : List ℕ) → Below m 2
+none-below-2 m r l a = omega (arith, applies-within m r a)
+
+none-at-all : (m : List ℕ) → Below m 10 → (r : Refusal) → Applies m r → ⊥
+none-at-all m h r a = h r (omega (arith, applies-within m r a)) a
 
 -- ---- what the options read as
 
@@ -73,11 +62,11 @@ module _ (m : List ℕ) (bytes : Bytes m) (ts : List Token) (rest : List ℕ) (e
   reads : Reads (drop 240 m) ts rest
   reads = decode-reads (drop 240 m) ts rest (bytes-drop 240 m bytes) e
 
-  readable : (P : List Token → Type 0) → P ts → WhereRead P m
-  readable P h = record { tokens = ts; rest = rest; reads = reads; holds = h }
+  readable : {P : List Token → Type 0} → P ts → WhereRead P m
+  readable h = record { tokens = ts; rest = rest; reads = reads; holds = h }
 
-  read-as : (P : List Token → Type 0) → WhereRead P m → P ts
-  read-as P r =
+  read-as : {P : List Token → Type 0} → WhereRead P m → P ts
+  read-as {P} r =
       let f = sym (reads-decode (drop 240 m) (r .tokens) (r .rest) (r .reads)) ∙ e in
       let t : r .tokens ≡ ts = cc in
       subst P t (r .holds)
@@ -107,49 +96,61 @@ relay-right ts h l (inr w) =
 
 -- what is said of a refusal that is given, and of a message that passes
 abbrev Given : List ℕ → Checked → Type 0
-Given m (stopped r) = Applies r m × NoneBelow (numberOf r) m × (numberOf r < 8)
-Given m (passed ts rest) = NoneBelow 8 m
+Given m (stopped r) = Applies m r × Below m (numberOf r) × (numberOf r < 8)
+Given m (passed ts rest) = Below m 8
 
 module _ (m : List ℕ) (bytes : Bytes m) where
-  given-tokens : NoneBelow 5 m → (ts : List Token) (rest : List ℕ) → decode (drop 240 m) ≡ parsed ts rest
+  given-tokens : Below m 5 → (ts : List Token) (rest : List ℕ) → decode (drop 240 m) ≡ parsed ts rest
       → (x y z l : Bool) → eqb (count 90 ts) 0 ≡ x → ltb 1 (count 90 ts) ≡ y → ltb 1 (count 82 ts) ≡ z → isLast 82 ts ≡ l
-      → Given m (cond x (stopped NoAuthentication) (cond y (stopped RepeatedAuthentication) (cond z (stopped RelayInformation) (cond l (passed ts rest) (stopped RelayInformation)))))
-  given-tokens h ts rest e true y z l hx hy hz hl = (readable m bytes ts rest e (λ ts. count 90 ts ≡ 0) (eqb-true (count 90 ts) 0 hx), h, omega arith)
+      → Given m
+      (cond x (stopped NoAuthentication)
+      (cond y (stopped RepeatedAuthentication) (cond z (stopped RelayInformation) (cond l (passed ts rest) (stopped RelayInformation)))))
+  given-tokens h ts rest e true y z l hx hy hz hl = (no-authentication (readable m bytes ts rest e (eqb-true (count 90 ts) 0 hx)), h, omega arith)
   given-tokens h ts rest e false y z l hx hy hz hl = by y z l hy hz hl
     where
-      no-5 : NoneBelow 6 m
-      no-5 = none-more m NoAuthentication h (λ a. eqb-false (count 90 ts) 0 hx (read-as m bytes ts rest e (λ ts. count 90 ts ≡ 0) a))
+      no-5 : Below m 6
+      no-5 = nothing-more (Applies m) NoAuthentication h (λ a. elim a [ no-authentication w ↦ eqb-false (count 90 ts) 0 hx (read-as m bytes ts rest e w) ])
 
-      no-6 : count 90 ts ≤ 1 → NoneBelow 7 m
-      no-6 k = none-more m RepeatedAuthentication no-5 (λ a. let w : 1 < count 90 ts = read-as m bytes ts rest e (λ ts. 1 < count 90 ts) a in omega arith)
+      no-6 : count 90 ts ≤ 1 → Below m 7
+      no-6 k = nothing-more (Applies m) RepeatedAuthentication no-5 (λ a. elim a [ repeated-authentication w ↦ omega (arith, read-as m bytes ts rest e w) ])
 
       by : (y z l : Bool) → ltb 1 (count 90 ts) ≡ y → ltb 1 (count 82 ts) ≡ z → isLast 82 ts ≡ l
           → Given m (cond y (stopped RepeatedAuthentication) (cond z (stopped RelayInformation) (cond l (passed ts rest) (stopped RelayInformation))))
-      by true z l hy hz hl = (readable m bytes ts rest e (λ ts. 1 < count 90 ts) (ltb-true 1 (count 90 ts) hy), no-5, omega arith)
-      by false true l hy hz hl = (readable m bytes ts rest e RelayWrong (inl (ltb-true 1 (count 82 ts) hz)), no-6 (ltb-false 1 (count 90 ts) hy), omega arith)
-      by false false false hy hz hl = (readable m bytes ts rest e RelayWrong (inr (not-last ts hl)), no-6 (ltb-false 1 (count 90 ts) hy), omega arith)
-      by false false true hy hz hl = none-more m RelayInformation (no-6 (ltb-false 1 (count 90 ts) hy)) (λ a. relay-right ts (ltb-false 1 (count 82 ts) hz) hl (read-as m bytes ts rest e RelayWrong a))
+      by true z l hy hz hl = (repeated-authentication (readable m bytes ts rest e (ltb-true 1 (count 90 ts) hy)), no-5, omega arith)
+      by false true l hy hz hl =
+          (relay-wrong (readable m bytes ts rest e (inl (ltb-true 1 (count 82 ts) hz))), no-6 (ltb-false 1 (count 90 ts) hy), omega arith)
+      by false false false hy hz hl =
+          (relay-wrong (readable m bytes ts rest e (inr (not-last ts hl))), no-6 (ltb-false 1 (count 90 ts) hy), omega arith)
+      by false false true hy hz hl =
+          nothing-more (Applies m) RelayInformation (no-6 (ltb-false 1 (count 90 ts) hy))
+          (λ a. elim a [ relay-wrong w ↦ relay-right ts (ltb-false 1 (count 82 ts) hz) hl (read-as m bytes ts rest e w) ])
 
-  given-parsed : NoneBelow 4 m → (p : Parsed) → decode (drop 240 m) ≡ p → Given m (checkedParsed p)
+  given-parsed : Below m 4 → (p : Parsed) → decode (drop 240 m) ≡ p → Given m (checkedParsed p)
   unfolding checkedTokens
-  given-parsed h cut e = (λ ts rest r. let f = sym e ∙ reads-decode (drop 240 m) ts rest r in let w : _≡_ {A = ℕ} 0 1 = cc in omega arith, h, omega arith)
-  given-parsed h (parsed ts rest) e = given-tokens (none-more m BrokenOptions h (λ a. a ts rest (reads m bytes ts rest e))) ts rest e _ _ _ _ refl refl refl refl
+  given-parsed h cut e =
+      (broken-options (λ ts rest r. let f = sym e ∙ reads-decode (drop 240 m) ts rest r in let w : _≡_ {A = ℕ} 0 1 = cc in omega arith), h, omega arith)
+  given-parsed h (parsed ts rest) e =
+      given-tokens (nothing-more (Applies m) BrokenOptions h (λ a. elim a [ broken-options n ↦ n ts rest (reads m bytes ts rest e) ])) ts rest e
+      _ _ _ _ refl refl refl refl
 
   given-sizes : (x y k : Bool) → ltb (length m) 241 ≡ x → ltb 1472 (length m) ≡ y → starts magicCookie (drop 236 m) ≡ k
       → Given m (cond x (stopped MessageSize) (cond y (stopped MessageSize) (cond k (checkedParsed (decode (drop 240 m))) (stopped WrongCookie))))
-  given-sizes true y k hx hy hk = (inl (ltb-true _ _ hx), none-below-2 m, omega arith)
-  given-sizes false true k hx hy hk = (inr (ltb-true _ _ hy), none-below-2 m, omega arith)
+  given-sizes true y k hx hy hk = (wrong-size (inl (ltb-true _ _ hx)), none-below-2 m, omega arith)
+  given-sizes false true k hx hy hk = (wrong-size (inr (ltb-true _ _ hy)), none-below-2 m, omega arith)
   given-sizes false false k hx hy hk = by k hk
     where
-      no-2 : NoneBelow 3 m
+      no-2 : Below m 3
       no-2 =
           let a = ltb-false (length m) 241 hx in
           let b = ltb-false 1472 (length m) hy in
-          none-more m MessageSize (none-below-2 m) (λ w. ⊎-elim (λ h. omega arith) (λ h. omega arith) w)
+          nothing-more (Applies m) MessageSize (none-below-2 m) (λ w. elim w [ wrong-size h ↦ ⊎-elim (λ h. omega arith) (λ h. omega arith) h ])
+
+      no-3 : starts magicCookie (drop 236 m) ≡ true → Below m 4
+      no-3 k = nothing-more (Applies m) WrongCookie no-2 (λ a. elim a [ wrong-cookie n ↦ n (starts-true magicCookie (drop 236 m) k) ])
 
       by : (k : Bool) → starts magicCookie (drop 236 m) ≡ k → Given m (cond k (checkedParsed (decode (drop 240 m))) (stopped WrongCookie))
-      by false hk = (λ e. let t = starts-taken magicCookie (drop 236 m) e in let w : _≡_ {A = ℕ} 0 1 = cc in omega arith, no-2, omega arith)
-      by true hk = given-parsed (none-more m WrongCookie no-2 (λ a. a (starts-true magicCookie (drop 236 m) hk))) (decode (drop 240 m)) refl
+      by false hk = (wrong-cookie (starts-not magicCookie (drop 236 m) hk), no-2, omega arith)
+      by true hk = given-parsed (no-3 hk) (decode (drop 240 m)) refl
 
   given : Given m (checkedOf m)
   unfolding checkedOf
@@ -157,49 +158,51 @@ module _ (m : List ℕ) (bytes : Bytes m) where
 
 -- ---- 8 and 9
 
-abbrev GivenForm : List ℕ → Form → Type 0
-GivenForm m (Refused r) = Applies r m × NoneBelow (numberOf r) m
-GivenForm m (Full a) = NoneBelow 10 m
+abbrev refusalIn : Form → Option Refusal
+refusalIn (Refused r) = some r
+refusalIn (Full a) = none
 
-module _ (m : List ℕ) (bytes : Bytes m) (ts : List Token) (rest : List ℕ) (p : Passing m ts rest) (h : NoneBelow 8 m) where
+abbrev GivenForm : List ℕ → Form → Type 0
+GivenForm m f = Right (Applies m) (refusalIn f)
+
+module _ (m : List ℕ) (bytes : Bytes m) (ts : List Token) (rest : List ℕ) (p : Passing m ts rest) (h : Below m 8) where
   abbrev s : Split 90 ts
   s = split-90 m ts rest p
 
   -- it is the one option 90
-  has : (P : List ℕ → List Token → Type 0) → ((q : List Token) → P (s .body) q) → WhereRead (Has 90 P) m
-  has P g = readable m bytes ts rest (p .reads) (Has 90 P) (record { front = s .front; body = s .body; back = s .back; splits = s .tokens; holds = g (s .back) })
+  has : {P : List ℕ → List Token → Type 0} → P (s .body) (s .back) → WhereRead (Has 90 P) m
+  has g = readable m bytes ts rest (p .reads) (record { front = s .front; body = s .body; back = s .back; splits = s .tokens; holds = g })
 
-  has-not : (P : List ℕ → List Token → Type 0) → ((q : List Token) → P (s .body) q → ⊥) → WhereRead (Has 90 P) m → ⊥
-  has-not P g r =
-      let w = read-as m bytes ts rest (p .reads) (Has 90 P) r in
+  body-of : {P : List ℕ → List Token → Type 0} → WhereRead (Has 90 P) m → (q : List Token) × P (s .body) q
+  body-of {P} r =
+      let w = read-as m bytes ts rest (p .reads) r in
       let z = front-none 90 ts (w .front) (w .body) (w .back) (omega (arith, p .one-90)) (w .splits) in
       let x = sym (ap (optionOf 90) (w .splits) ∙ option-there 90 (w .front) (w .body) (w .back) z) ∙ option-is m ts rest p 90 s in
       let b : w .body ≡ s .body = cc in
-      g (w .back) (subst (λ (b : List ℕ). P b (w .back)) b (w .holds))
+      (w .back, subst (λ (b : List ℕ). P b (w .back)) b (w .holds))
 
-  no-8 : length (s .body) ≡ 11 ⊎ length (s .body) ≡ 31 → starts delayed (s .body) ≡ true → NoneBelow 9 m
-  no-8 n d = none-more m OtherAuthentication h (has-not OtherForm (λ q o. wrong n o))
+  no-8 : length (s .body) ≡ 11 ⊎ length (s .body) ≡ 31 → starts delayed (s .body) ≡ true → Below m 9
+  no-8 n d = nothing-more (Applies m) OtherAuthentication h (λ a. elim a [ other-form w ↦ wrong n (body-of w .1) ])
     where
       wrong : length (s .body) ≡ 11 ⊎ length (s .body) ≡ 31 → OtherForm (s .body) [] → ⊥
       wrong (inl n) (inl o) = o .0 n
       wrong (inr n) (inl o) = o .1 n
-      wrong (inl n) (inr o) = o (starts-true delayed (s .body) d)
-      wrong (inr n) (inr o) = o (starts-true delayed (s .body) d)
+      wrong n (inr o) = o (starts-true delayed (s .body) d)
 
-  other-method : starts delayed (s .body) ≡ false → WhereRead (Has 90 OtherForm) m
-  other-method d = has OtherForm (λ q. inr (λ e. let t = starts-taken delayed (s .body) e in let w : _≡_ {A = ℕ} 0 1 = cc in omega arith))
+  other-method : starts delayed (s .body) ≡ false → Applies m OtherAuthentication
+  other-method d = other-form (has (inr (starts-not delayed (s .body) d)))
 
   given-for : (u v d : Bool) (counter id : ℕ) (mac : List ℕ) → eqb (length (s .body)) 31 ≡ u → eqb (length (s .body)) 11 ≡ v → starts delayed (s .body) ≡ d
       → GivenForm m (formSaid (placesOf ts) (saidFor u v d (says counter id mac)))
   given-for true v true c i x hu hv hd =
       let n = eqb-true (length (s .body)) 31 hu in
-      none-more m RequestForm (no-8 (inr n) hd) (has-not RequestBytes (λ q o. let k = o .0 in omega arith))
+      none-at-all m (nothing-more (Applies m) RequestForm (no-8 (inr n) hd) (λ a. elim a [ request-form w ↦ let k = body-of w .1 .0 in omega arith ]))
   given-for true v false c i x hu hv hd = (other-method hd, h)
   given-for false true true c i x hu hv hd =
       let n = eqb-true (length (s .body)) 11 hv in
-      (has RequestBytes (λ q. (n, starts-true delayed (s .body) hd)), no-8 (inl n) hd)
+      (request-form (has (n, starts-true delayed (s .body) hd)), no-8 (inl n) hd)
   given-for false true false c i x hu hv hd = (other-method hd, h)
-  given-for false false d c i x hu hv hd = (has OtherForm (λ q. inl (eqb-false (length (s .body)) 11 hv, eqb-false (length (s .body)) 31 hu)), h)
+  given-for false false d c i x hu hv hd = (other-form (has (inl (eqb-false (length (s .body)) 11 hv, eqb-false (length (s .body)) 31 hu))), h)
 
   given-said : GivenForm m (formSaid (placesOf ts) (saidBy (optionOf 90 ts)))
   unfolding saidBy
@@ -217,20 +220,6 @@ given-form m b = by (checkedOf m) refl (given m b)
 
 -- ---- the statement
 
--- of two numbers that are each the lowest, one is not below the other
-lowest : (m : List ℕ) (r : Refusal) (f : Form) → GivenForm m f → Applies r m → NoneBelow (numberOf r) m → f ≡ Refused r
-lowest m r (Refused q) g a n = ap Refused (numbers-tell .apart q r (by (ltb (numberOf q) (numberOf r)) (ltb (numberOf r) (numberOf q)) refl refl))
-  where
-    by : (x y : Bool) → ltb (numberOf q) (numberOf r) ≡ x → ltb (numberOf r) (numberOf q) ≡ y → numberOf q ≡ numberOf r
-    by true y hx hy = absurd (n q (ltb-true (numberOf q) (numberOf r) hx) (g .0))
-    by false true hx hy = absurd (g .1 r (ltb-true (numberOf r) (numberOf q) hy) a)
-    by false false hx hy = let c = ltb-false (numberOf q) (numberOf r) hx in let d = ltb-false (numberOf r) (numberOf q) hy in omega arith
-lowest m r (Full x) g a n = absurd (none-at-all m g r a)
-
-full-where-none : (m : List ℕ) (f : Form) → GivenForm m f → ((k : Refusal) → Applies k m → ⊥) → (a : Auth) × (f ≡ Full a)
-full-where-none m (Refused r) g n = absurd (n r (g .0))
-full-where-none m (Full a) g n = (a, refl)
-
 -- a form by its number
 number-named : (r : Refusal) (f : Form) → formNumber f ≡ numberOf r → f ≡ Refused r
 number-named r (Refused q) e = ap Refused (numbers-tell .apart q r e)
@@ -240,28 +229,21 @@ number-full : (f : Form) → formNumber f ≡ done → (a : Auth) × (f ≡ Full
 number-full (Refused r) e = absurd (omega (arith, numbers-tell .not-done r))
 number-full (Full a) e = (a, refl)
 
-passes-where-none : (m : List ℕ) (c : Checked) → Given m c → (Passed c → NoneBelow 8 m) × (NoneBelow 8 m → Passed c)
+passes-where-none : (m : List ℕ) (c : Checked) → Given m c → (Passed c → Below m 8) × (Below m 8 → Passed c)
 passes-where-none m (stopped r) g = (λ h. absurd h, λ n. n r (g .2) (g .0))
 passes-where-none m (passed ts rest) g = (λ h. g, λ n. tt)
 
-module _ (m : List ℕ) (bytes : Bytes m) where
-  refused-lowest : (r : Refusal) → formOf m ≡ Refused r → Applies r m × NoneBelow (numberOf r) m
-  refused-lowest r e = subst (GivenForm m) e (given-form m bytes)
-
-  lowest-refused : (r : Refusal) → Applies r m × NoneBelow (numberOf r) m → formOf m ≡ Refused r
-  lowest-refused r h = lowest m r (formOf m) (given-form m bytes) (h .0) (h .1)
-
-  full-none : (a : Auth) × (formOf m ≡ Full a) → (k : Refusal) → Applies k m → ⊥
-  full-none h = none-at-all m (subst (GivenForm m) (h .1) (given-form m bytes))
-
-  none-full : ((k : Refusal) → Applies k m → ⊥) → (a : Auth) × (formOf m ≡ Full a)
-  none-full n = full-where-none m (formOf m) (given-form m bytes) n
+number-lowest : (m : List ℕ) → Bytes m → Lowest (Applies m) (formNumber (formOf m))
+number-lowest m b = by (formOf m) (given-form m b)
+  where
+    by : (f : Form) → GivenForm m f → Lowest (Applies m) (formNumber f)
+    by (Refused r) g = lowest (Applies m) (some r) g
+    by (Full a) g = lowest (Applies m) none g
 
 pub lowest-given : LowestGiven
 lowest-given = record {
-  number = λ m b r. (λ e. refused-lowest m b r (number-named r (formOf m) e), λ h. ap formNumber (lowest-refused m b r h));
-  number-0 = λ m b. (λ e. full-none m b (number-full (formOf m) e), λ n. ap formNumber (none-full m b n .1));
-  refused = λ m b r. (refused-lowest m b r, lowest-refused m b r);
-  full = λ m b. (full-none m b, none-full m b);
+  number = number-lowest;
+  refused = λ m b r. let w = number-lowest m b .refused r in (λ e. w .0 (ap formNumber e), λ h. number-named r (formOf m) (w .1 h));
+  full = λ m b. let w = number-lowest m b .none-applies in (λ h. w .0 (ap formNumber (h .1)), λ n. number-full (formOf m) (w .1 n));
   passes = λ m b. passes-where-none m (checkedOf m) (given m b);
 }

@@ -1,14 +1,17 @@
--- Numbers 2 to 9 in the words of document 01's table ('Numbers given back'), and the statement that a message is refused with the lowest
--- number that applies, and with none otherwise.
+-- Numbers 2 to 9 in the words of docs/RULES.md ('Numbers'), and the statement that a message is refused with the lowest number that applies, and
+-- with none otherwise.
 use Prim.Native.Nat.{ℕ, _<_}
 use mathlib.Core.Path.{_≡_}
 use mathlib.Core.Logic.{_≢_, _⊎_, _↔_}
 use mathlib.Core.List.{List, [], _∷_, _++_}
 use lib.ListN.{length, take, drop}
-use Rattle.refusal.specs.Number.{numberOf, done}
+use Rattle.refusal.specs.Number.{numberOf}
+use Rattle.refusal.specs.Lowest.{NothingBelow, Lowest}
 use Rattle.refusal.specs.declared.Refusal.{Refusal}
-use Rattle.refusal.specs.declared.Refusal.the-variants.{UnsoundBook, MessageSize, WrongCookie, BrokenOptions, NoAuthentication, RepeatedAuthentication, RelayInformation, OtherAuthentication, RequestForm, UnknownSecret, Replay, WrongMac, CounterSpent, TooLong, MalformedCard, NoRoomForCard, NoRoomForRows}
-use Rattle.dhcp_message.specs.Layout.{messageLeast, messageMost, headerSize, cookieAt, magicCookie, relayCode, authCode, fullLength, requestLength, delayed}
+use Rattle.refusal.specs.declared.Refusal.the-variants.{MessageSize, WrongCookie, BrokenOptions, NoAuthentication, RepeatedAuthentication}
+use Rattle.refusal.specs.declared.Refusal.the-variants.{RelayInformation, OtherAuthentication, RequestForm}
+use Rattle.dhcp_message.specs.Layout.{messageLeast, messageMost, headerSize, cookieAt, magicCookie, relayCode, authCode}
+use Rattle.dhcp_message.specs.Layout.{fullLength, requestLength, delayed}
 use Rattle.octets.specs.Bytes.{Bytes}
 use Rattle.dhcp_message.specs.Options.{Token, pad, opt, Reads}
 use Rattle.dhcp_message.specs.Message.{count, Passes27}
@@ -52,35 +55,21 @@ OtherForm body back = ((length body ≢ requestLength) × (length body ≢ fullL
 abbrev pub RequestBytes : List ℕ → List Token → Type 0
 RequestBytes body back = (length body ≡ requestLength) × (take (length delayed) body ≡ delayed)
 
--- a number that speaks of the message alone applies to it
-abbrev pub Applies : Refusal → List ℕ → Type 0
-Applies UnsoundBook m = ⊥
-Applies MessageSize m = (length m < messageLeast) ⊎ (messageMost < length m)
-Applies WrongCookie m = take (length magicCookie) (drop cookieAt m) ≢ magicCookie
-Applies BrokenOptions m = NoReading m
-Applies NoAuthentication m = WhereRead (λ ts. count authCode ts ≡ 0) m
-Applies RepeatedAuthentication m = WhereRead (λ ts. 1 < count authCode ts) m
-Applies RelayInformation m = WhereRead RelayWrong m
-Applies OtherAuthentication m = WhereRead (Has authCode OtherForm) m
-Applies RequestForm m = WhereRead (Has authCode RequestBytes) m
-Applies UnknownSecret m = ⊥
-Applies Replay m = ⊥
-Applies WrongMac m = ⊥
-Applies CounterSpent m = ⊥
-Applies TooLong m = ⊥
-Applies MalformedCard m = ⊥
-Applies NoRoomForCard m = ⊥
-Applies NoRoomForRows m = ⊥
-
--- none that applies has a number below n
-abbrev pub NoneBelow : ℕ → List ℕ → Type 0
-NoneBelow n m = (k : Refusal) → numberOf k < n → Applies k m → ⊥
+-- a number applies to a message: each speaks of the message alone
+pub data Applies (m : List ℕ) : Refusal → Type 0 where
+  wrong-size : (length m < messageLeast) ⊎ (messageMost < length m) → Applies m MessageSize
+  wrong-cookie : take (length magicCookie) (drop cookieAt m) ≢ magicCookie → Applies m WrongCookie
+  broken-options : NoReading m → Applies m BrokenOptions
+  no-authentication : WhereRead (λ ts. count authCode ts ≡ 0) m → Applies m NoAuthentication
+  repeated-authentication : WhereRead (λ ts. 1 < count authCode ts) m → Applies m RepeatedAuthentication
+  relay-wrong : WhereRead RelayWrong m → Applies m RelayInformation
+  other-form : WhereRead (Has authCode OtherForm) m → Applies m OtherAuthentication
+  request-form : WhereRead (Has authCode RequestBytes) m → Applies m RequestForm
 
 -- of a byte string: its number is the lowest that applies, and 0 where none does; it is refused with that name, or in full form; and it passes
 -- 2 to 7 where none of these applies
 pub record LowestGiven : Type 0 where
-  pub number : (m : List ℕ) → Bytes m → (r : Refusal) → (formNumber (formOf m) ≡ numberOf r) ↔ (Applies r m × NoneBelow (numberOf r) m)
-  pub number-0 : (m : List ℕ) → Bytes m → (formNumber (formOf m) ≡ done) ↔ ((k : Refusal) → Applies k m → ⊥)
-  pub refused : (m : List ℕ) → Bytes m → (r : Refusal) → (formOf m ≡ Refused r) ↔ (Applies r m × NoneBelow (numberOf r) m)
-  pub full : (m : List ℕ) → Bytes m → ((a : Auth) × (formOf m ≡ Full a)) ↔ ((k : Refusal) → Applies k m → ⊥)
-  pub passes : (m : List ℕ) → Bytes m → Passes27 m ↔ NoneBelow (numberOf OtherAuthentication) m
+  pub number : (m : List ℕ) → Bytes m → Lowest (Applies m) (formNumber (formOf m))
+  pub refused : (m : List ℕ) → Bytes m → (r : Refusal) → (formOf m ≡ Refused r) ↔ (Applies m r × NothingBelow (Applies m) (numberOf r))
+  pub full : (m : List ℕ) → Bytes m → ((a : Auth) × (formOf m ≡ Full a)) ↔ ((r : Refusal) → Applies m r → ⊥)
+  pub passes : (m : List ℕ) → Bytes m → Passes27 m ↔ NothingBelow (Applies m) (numberOf OtherAuthentication)

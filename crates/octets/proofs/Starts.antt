@@ -57,3 +57,7 @@ module _ (m : List ℕ) (at x : ℕ) (h : at < length m) where
       by : (t : Bool) → (t && true) ≡ t
       by true = refl
       by false = refl
+
+-- bytes that don't start so are others
+pub starts-not : (xs ys : List ℕ) → starts xs ys ≡ false → take (length xs) ys ≢ xs
+starts-not xs ys h e = let t = starts-taken xs ys e in let w : _≡_ {A = ℕ} 0 1 = cc in omega arith
