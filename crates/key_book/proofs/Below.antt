@@ -1,14 +1,15 @@
--- A test of every number below a bound: what it says when it holds, and when it fails.
+-- A test of every number below a bound (`allBelow`): what it says when it holds and when it fails, and what a loop over it keeps.
 use mathlib.Core.Path.{_≡_, refl, sym, _∙_, ap₂}
 use mathlib.Core.Logic.{⊎-elim}
 use mathlib.Core.Bool.{Bool, true, false, _&&_, and-eq-true-iff, true≢false}
-use Prim.Native.Nat.{ℕ, zero, suc, _<_}
+use Prim.Native.Nat.{ℕ, zero, suc, _+_, _≤_, _<_}
 use native.Mathlib.Nat.{eq-or-lt-of-le, le-of-suc-le-suc, lt-trans}
+use native.Mathlib.Numerals.{add-one}
 use native.Mathlib.Omega.{arith}
 use Rattle.key_book.specs.Book.{allBelow}
 
 -- a test that cannot hold fails
-pub is-false : (t : Bool) → (t ≡ true → ⊥) → t ≡ false
+pub is-false : (t : Bool) → (t ≡ true → ⊥) → false ≡ t
 is-false true h = absurd (h refl)
 is-false false h = refl
 
@@ -28,8 +29,25 @@ module _ (p : ℕ → Bool) where
   all-holds zero h = refl
   all-holds (suc n) h = both (allBelow p n) (p n) (all-holds n (λ k l. h k (omega arith))) (h n (omega arith))
 
-  pub all-fails : (n k : ℕ) → k < n → p k ≡ false → allBelow p n ≡ false
-  all-fails n k h f = is-false (allBelow p n) (λ e. true≢false (sym (all-says n e k h) ∙ f))
+  -- a loop that has passed the first k of n
+  pub record Passed (n k : ℕ) : Type 0 where
+    pub within : k ≤ n
+    pub held : allBelow p k ≡ true
+
+  module _ (n : ℕ) where
+    pub pass-start : Passed n 0
+    unfolding allBelow
+    pass-start = record { within = omega arith; held = refl }
+
+    pub pass-turn : (k : ℕ) → Passed n k → k < n → p k ≡ true → Passed n (k + 1)
+    unfolding allBelow
+    pass-turn k s h e = record { within = omega arith; held = rw add-one (both (allBelow p k) (p k) (s .held) e) }
+
+    pub pass-fails : (k : ℕ) → k < n → p k ≡ false → false ≡ allBelow p n
+    pass-fails k h f = is-false (allBelow p n) (λ e. true≢false (sym (all-says n e k h) ∙ f))
+
+    pub pass-end : (k : ℕ) → Passed n k → n ≤ k → true ≡ allBelow p n
+    pass-end k s h = let e : n ≡ k = omega arith in rw e (sym (s .held))
 
 -- two tests that agree below the bound
 pub all-alike : (p q : ℕ → Bool) (n : ℕ) → ((k : ℕ) → k < n → p k ≡ q k) → allBelow p n ≡ allBelow q n
@@ -38,7 +56,8 @@ all-alike p q zero h = refl
 all-alike p q (suc n) h = ap₂ (λ (s t : Bool). s && t) (all-alike p q n (λ k l. h k (omega arith))) (h n (omega arith))
 
 -- what ascends from each place to the next ascends
-pub ascends : (f : ℕ → ℕ) (n : ℕ) → ((k : ℕ) → suc k < n → f k < f (suc k)) → (j k : ℕ) → j < k → k < n → f j < f k
+pub ascends : (f : ℕ → ℕ) (n : ℕ) → ((k : ℕ) → k + 1 < n → f k < f (k + 1)) → (j k : ℕ) → j < k → k < n → f j < f k
 ascends f n h j zero l m = absurd (omega arith)
 ascends f n h j (suc k) l m =
-    ⊎-elim (λ (q : j ≡ k). rw q (h k m)) (λ (r : j < k). lt-trans (ascends f n h j k r (omega arith)) (h k m)) (eq-or-lt-of-le (le-of-suc-le-suc l))
+    let s : f k < f (suc k) = rw add-one at (h k (omega arith)) in
+    ⊎-elim (λ (q : j ≡ k). rw q s) (λ (r : j < k). lt-trans (ascends f n h j k r (omega arith)) s) (eq-or-lt-of-le (le-of-suc-le-suc l))

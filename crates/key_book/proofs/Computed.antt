@@ -1,10 +1,10 @@
 -- specs/Examples.antt, computed; the lengths of lists too long to count out by a law.
-use mathlib.Core.Path.{_≡_, refl, _∙_}
+use mathlib.Core.Path.{_≡_, refl}
 use Prim.Native.Nat.{ℕ, zero, suc, _*_, _<_}
 use native.Mathlib.Omega.{arith}
 use lib.Dec.{leb, eqb}
-use lib.ListN.{length, getD, replicate, length-replicate}
-use mathlib.Core.Bool.{true, _&&_}
+use lib.ListN.{getD, replicate, length-replicate}
+use mathlib.Core.Bool.{_&&_}
 use Rattle.key_book.specs.Limits.{slotSize, roomMost}
 use Rattle.key_book.specs.Book.{sound, sized, ascending, keySizes, allBelow}
 use Rattle.key_book.specs.Examples.{Example10, roomFor, BookLimits}
@@ -13,9 +13,9 @@ pub example-10 : Example10
 unfolding sound sized ascending keySizes allBelow
 example-10 = record { largest-key = refl; key-too-long = refl; no-key = refl }
 
-room-sized : (n : ℕ) → sized (roomFor n) ≡ (leb n roomMost && eqb n n && eqb (64 * n) (slotSize * n) && eqb n n && eqb n n)
+room-sized : (n : ℕ) → sized (roomFor n) ≡ (leb n roomMost && eqb n n && eqb (slotSize * n) (slotSize * n) && eqb n n && eqb n n)
 unfolding sized
-room-sized n = rw (length-replicate {A = ℕ} n 0, length-replicate {A = ℕ} (64 * n) 0) refl
+room-sized n = rw (length-replicate {A = ℕ} n 0, length-replicate {A = ℕ} (slotSize * n) 0)
 
 -- no element of a repeated number reaches a bound above it, nor does what stands for one past the end
 repeats-below : (count x bound k : ℕ) → x < bound → getD (replicate count x) k 0 < bound
@@ -33,7 +33,7 @@ book-limits = record {
   largest-sound = refl;
   largest-lent = record {
     id-fits = λ k. repeats-below 1 4294967295 _ k (omega arith);
-    byte-fits = λ k. repeats-below 64 255 _ k (omega arith);
+    byte-fits = λ k. repeats-below slotSize 255 _ k (omega arith);
     received-fits = λ k. repeats-below 1 18446744073709551615 _ k (omega arith);
     sent-fits = λ k. repeats-below 1 18446744073709551615 _ k (omega arith);
   };

@@ -1,4 +1,5 @@
 mod Below
+mod Keys
 mod Steps
 pub mod Answers
 pub mod Says

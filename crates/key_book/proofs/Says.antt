@@ -1,4 +1,5 @@
--- The closed statements of specs/Laws.antt, proved: the computed tests by their parts, the row of an id by induction on the ids, the key of a row from `keyFits`.
+-- The closed statements of specs/Laws.antt, proved: the tests by their parts, the row of an id by induction on the ids, the key of a row where it fits
+-- the store (proofs/Keys.antt).
 use mathlib.Core.Path.{_≡_, refl, sym, ap, _∙_}
 use mathlib.Core.Logic.{_↔_, _≢_}
 use mathlib.Core.Bool.{Bool, true, false, cond, and-eq-true-iff}
@@ -6,52 +7,49 @@ use mathlib.Core.List.{List, [], _∷_}
 use mathlib.Core.Option.{Option, none, some}
 use Prim.Native.Nat.{ℕ, zero, suc, _+_, _-_, _*_, _≤_, _<_}
 use native.Mathlib.Omega.{arith}
-use borrow.Author.Tests.{eq-eqb, le-leb, lt-ltb, leb-true, eqb-true, eqb-false, ltb-true, ltb-false}
-use lib.Dec.{leb, ltb, eqb}
+use borrow.Author.Tests.{eq-eqb, le-leb, leb-true, eqb-true, eqb-false}
+use lib.Dec.{leb, eqb}
 use lib.ListN.{length, getD, take, drop, length-take, length-drop}
 use lib.Seq.{getD-take, getD-drop, ext-getD, length-take-le}
 use Rattle.key_book.specs.Limits.{slotSize}
-use Rattle.key_book.specs.Book.{Book, allBelow, sized, ascending, keySize, keySizes, sound, placeFrom, rowIn, rowOf, keyFits, keyStart, keyIn, keyOf}
+use Rattle.key_book.specs.Book.{Book, allBelow, sized, ascending, keySizes, sound, placeFrom, rowIn, rowOf, keyOf}
 use Rattle.key_book.specs.Laws.{SizedSays, SoundSays, FirstRow, NoRow, RowSays, Within, RowsWithin, KeySays, SoundDepends, RowDepends, KeyDepends}
-use Rattle.key_book.proofs.Below.{both, all-says, all-holds, all-alike, ascends}
+use Rattle.key_book.proofs.Below.{all-says, all-holds, all-alike, ascends}
+use Rattle.key_book.proofs.Keys.{Fits, key-part, key-start}
+
+leb-says : (m n : ℕ) → (leb m n ≡ true) ↔ (m ≤ n)
+leb-says m n = (leb-true m n, le-leb m n)
+
+eqb-says : (m n : ℕ) → (eqb m n ≡ true) ↔ (m ≡ n)
+eqb-says m n = (eqb-true m n, eq-eqb m n)
+
+all-below : (p : ℕ → Bool) (n : ℕ) → (allBelow p n ≡ true) ↔ ((k : ℕ) → k < n → p k ≡ true)
+all-below p n = (all-says p n, all-holds p n)
 
 pub sized-says : SizedSays
 unfolding sized
 sized-says b = (
-  λ e. let t₃ = and-eq-true-iff _ _ .0 e in
-      let t₂ = and-eq-true-iff _ _ .0 (t₃ .0) in
-      let t₁ = and-eq-true-iff _ _ .0 (t₂ .0) in
-      let t₀ = and-eq-true-iff _ _ .0 (t₁ .0) in
-      record {
-        room = leb-true _ _ (t₀ .0);
-        lengths-agree = eqb-true _ _ (t₀ .1);
-        store-agrees = eqb-true _ _ (t₁ .1);
-        received-agree = eqb-true _ _ (t₂ .1);
-        sent-agree = eqb-true _ _ (t₃ .1);
-      },
-  λ s. both _ _ (both _ _ (both _ _ (both _ _ (le-leb _ _ (s .room)) (eq-eqb _ _ (s .lengths-agree))) (eq-eqb _ _ (s .store-agrees))) (eq-eqb _ _ (s .received-agree))) (eq-eqb _ _ (s .sent-agree)),
+  λ e. let t = simp (and-eq-true-iff, leb-says, eqb-says) at e in
+      record { room = omega arith; lengths-agree = omega arith; store-agrees = omega arith; received-agree = omega arith; sent-agree = omega arith },
+  λ s. simp (and-eq-true-iff, leb-says, eqb-says) ((((s .room, s .lengths-agree), s .store-agrees), s .received-agree), s .sent-agree),
 )
 
 pub sound-says : SoundSays
 unfolding sound ascending keySizes
 sound-says b = (
-  λ e. let t₃ = and-eq-true-iff _ _ .0 e in
-      let t₂ = and-eq-true-iff _ _ .0 (t₃ .0) in
-      let t₁ = and-eq-true-iff _ _ .0 (t₂ .0) in
-      let t₀ = and-eq-true-iff _ _ .0 (t₁ .0) in
-      let key : (k : ℕ) → k < b .rows → (leb 1 (getD (b .lengths) k 0) ≡ true) × (leb (getD (b .lengths) k 0) slotSize ≡ true) = λ k h. and-eq-true-iff _ _ .0 (all-says _ (b .rows) (t₃ .1) k h) in
+  λ e. let t = simp (and-eq-true-iff, leb-says, all-below, sized-says) at e in
       record {
-        sizes = sized-says b .0 (t₀ .0);
-        rows-fit = leb-true _ _ (t₀ .1);
-        rows-few = leb-true _ _ (t₁ .1);
-        ids-ascend = ascends (λ (k : ℕ). getD (b .ids) k 0) (b .rows) (λ k h. ltb-true _ _ (all-says _ (b .rows - 1) (t₂ .1) k (omega arith)));
-        keys-from = λ k h. leb-true _ _ (key k h .0);
-        keys-to = λ k h. leb-true _ _ (key k h .1);
+        sizes = t .0 .0 .0 .0;
+        rows-fit = t .0 .0 .0 .1;
+        rows-few = t .0 .0 .1;
+        ids-ascend = ascends (λ (k : ℕ). getD (b .ids) k 0) (b .rows) (λ k h. t .0 .1 k (omega arith));
+        keys-from = λ k h. t .1 k h .0;
+        keys-to = λ k h. t .1 k h .1;
       },
-  λ s. both _ _
-      (both _ _ (both _ _ (both _ _ (sized-says b .1 (s .sizes)) (le-leb _ _ (s .rows-fit))) (le-leb _ _ (s .rows-few)))
-      (all-holds _ (b .rows - 1) (λ k h. lt-ltb _ _ (s .ids-ascend k (suc k) (omega arith) (omega arith)))))
-      (all-holds _ (b .rows) (λ k h. both _ _ (le-leb _ _ (s .keys-from k h)) (le-leb _ _ (s .keys-to k h)))),
+  λ s. simp (and-eq-true-iff, leb-says, all-below, sized-says) (
+    (((s .sizes, s .rows-fit), s .rows-few), λ k h. s .ids-ascend k (k + 1) (omega arith) (omega arith)),
+    λ k h. (s .keys-from k h, s .keys-to k h),
+  ),
 )
 
 -- the first place of an id in a list numbered from n: by the answer
@@ -77,26 +75,15 @@ placed id n (x ∷ xs) = on (placed id (suc n) xs) (eqb x id) refl
     on ih true e = (0, (omega arith, (omega arith, (eqb-true x id e, λ j h. absurd (omega arith)))))
     on ih false e = placed-more id n x xs (eqb-false x id e) (placeFrom id (suc n) xs) ih
 
--- two first places are the same
-first-same : (P : ℕ → Type 0) (i k : ℕ) → P i → P k → ((j : ℕ) → j < i → P j → ⊥) → ((j : ℕ) → j < k → P j → ⊥) → i ≡ k
-first-same P i k pi pk fi fk = on (ltb i k) refl (ltb k i) refl
-  where
-    on : (s : Bool) → ltb i k ≡ s → (t : Bool) → ltb k i ≡ t → i ≡ k
-    on true e t f = absurd (fk i (ltb-true i k e) pi)
-    on false e true f = absurd (fi k (ltb-true k i f) pk)
-    on false e false f = omega (arith, ltb-false i k e, ltb-false k i f)
-
 module _ (b : Book) (id : ℕ) where
-  used : List ℕ
+  abbrev used : List ℕ
   used = take (b .rows) (b .ids)
 
   used-at : (k : ℕ) → k < b .rows → getD used k 0 ≡ getD (b .ids) k 0
-  unfolding used
   used-at k h = getD-take (b .rows) (b .ids) k 0 h
 
-  in-used : (k : ℕ) → (k < length used) ↔ ((k < b .rows) × (k < length (b .ids)))
-  unfolding used
-  in-used k = (λ h. let l = rw length-take at h in (omega arith, omega arith), λ h. rw length-take (omega arith))
+  used-length : (k : ℕ) → (k < length used) ↔ ((k < b .rows) × (k < length (b .ids)))
+  used-length k = (λ h. let l = rw length-take at h in (omega arith, omega arith), λ h. rw length-take (omega arith))
 
   found-first : (k : ℕ) (o : Option ℕ) → Placed id 0 used o → o ≡ some k → FirstRow b id k
   unfolding Placed
@@ -104,7 +91,7 @@ module _ (b : Book) (id : ℕ) where
   found-first k (some m) (i, (q, (l, (f, g)))) e =
       let m≡ : m ≡ k = cc in
       let i≡ : i ≡ k = omega arith in
-      let l′ = in-used i .0 l in
+      let l′ = used-length i .0 l in
       record {
         used = omega arith;
         lent = omega arith;
@@ -114,22 +101,22 @@ module _ (b : Book) (id : ℕ) where
 
   first-found : (k : ℕ) → FirstRow b id k → (o : Option ℕ) → Placed id 0 used o → o ≡ some k
   unfolding Placed
-  first-found k f none h = absurd (h k (in-used k .1 (f .used, f .lent)) (used-at k (f .used) ∙ f .named))
+  first-found k f none h = absurd (h k (used-length k .1 (f .used, f .lent)) (used-at k (f .used) ∙ f .named))
   first-found k f (some m) (i, (q, (l, (e, g)))) =
-      let l′ = in-used i .0 l in
-      let s : i ≡ k = first-same (λ (j : ℕ). getD (b .ids) j 0 ≡ id) i k (sym (used-at i (l′ .0)) ∙ e) (f .named) (λ j h n. g j h (used-at j (omega arith) ∙ n)) (f .first) in
+      let later : i < k → ⊥ = λ h. f .first i h (sym (used-at i (used-length i .0 l .0)) ∙ e) in
+      let earlier : k < i → ⊥ = λ h. g k h (used-at k (f .used) ∙ f .named) in
       let m≡ : m ≡ k = omega arith in
       ap some m≡
 
   none-found : (o : Option ℕ) → Placed id 0 used o → (o ≡ none) ↔ NoRow b id
   unfolding Placed
-  none-found none h = (λ e k u l n. h k (in-used k .1 (u, l)) (used-at k u ∙ n), λ n. refl)
+  none-found none h = (λ e k u l n. h k (used-length k .1 (u, l)) (used-at k u ∙ n), λ n. refl)
   none-found (some m) (i, (q, (l, (e, g)))) =
-      let l′ = in-used i .0 l in
+      let l′ = used-length i .0 l in
       (λ e. absurd (let z : _≡_ {A = ℕ} 0 1 = cc in omega arith), λ n. absurd (n i (l′ .0) (l′ .1) (sym (used-at i (l′ .0)) ∙ e)))
 
 pub row-says : RowSays
-unfolding rowIn used
+unfolding rowIn
 row-says = record {
   row = λ b id k. (found-first b id k (rowOf b id) (placed id 0 (used b id)), λ f. first-found b id k f (rowOf b id) (placed id 0 (used b id)));
   no-row = λ b id. none-found b id (rowOf b id) (placed id 0 (used b id));
@@ -138,60 +125,41 @@ row-says = record {
 pub rows-within : RowsWithin
 rows-within b s k h =
     let z = s .sizes in
-    let f = s .rows-fit in
-    record {
-      in-ids = omega arith;
-      in-lengths = omega arith;
-      in-store = omega arith;
-      in-received = omega arith;
-      in-sent = omega arith;
-    }
+    record { in-ids = omega arith; in-lengths = omega arith; in-store = omega arith; in-received = omega arith; in-sent = omega arith }
 
+-- the key of a row within the book, as a part of the store
 module _ (b : Book) (k : ℕ) (w : Within b k) (t : getD (b .lengths) k 0 ≤ slotSize) where
-  fits : keyFits (b .store) (b .lengths) k ≡ true
-  unfolding keyFits
-  fits =
-      let i = w .in-store in
-      both _ _ (lt-ltb k (length (b .lengths)) (w .in-lengths)) (le-leb (slotSize * k + getD (b .lengths) k 0) (length (b .store)) (omega arith))
+  within-fits : Fits (b .store) (b .lengths) k
+  within-fits = record { listed = w .in-lengths; stored = omega arith }
 
-  -- the key of a row within the book, as a part of the store
   pub key-is : keyOf b k ≡ take (getD (b .lengths) k 0) (drop (slotSize * k) (b .store))
-  unfolding keyIn
-  key-is = rw fits
+  key-is = key-part _ _ _ within-fits
 
   pub key-long : length (keyOf b k) ≡ getD (b .lengths) k 0
   key-long =
       let i = w .in-store in
       ap length key-is ∙ length-take-le (getD (b .lengths) k 0) (drop (slotSize * k) (b .store)) (rw length-drop (omega arith))
 
-  key-byte : (i : ℕ) → i < getD (b .lengths) k 0 → getD (keyOf b k) i 0 ≡ getD (b .store) (slotSize * k + i) 0
-  key-byte i l = ap (λ (x : List ℕ). getD x i 0) key-is ∙ getD-take _ _ i 0 l ∙ getD-drop (slotSize * k) (b .store) i 0
-
-  start-is : keyStart (b .store) (b .lengths) k ≡ slotSize * k
-  unfolding keyStart
-  start-is = rw fits
-
 pub key-says : KeySays
 key-says b s k h =
     let w = rows-within b s k h in
     let f = s .keys-from k h in
     let t = s .keys-to k h in
-    let e = key-long b k w t in
+    let l = key-long b k w t in
     record {
-      size = e;
+      size = l;
       from-one = omega arith;
       to-slot = omega arith;
-      start = start-is b k w t;
-      bytes = λ i l. key-byte b k w t i (omega arith);
+      start = key-start _ _ _ (within-fits b k w t);
+      bytes = λ i m. ap (λ (x : List ℕ). getD x i 0) (key-is b k w t) ∙ getD-take (getD (b .lengths) k 0) _ i 0 (omega arith) ∙ getD-drop _ (b .store) i 0;
     }
 
 pub sound-depends : SoundDepends
 unfolding sound sized ascending keySizes
 sound-depends b c a =
-    let ids : allBelow (λ k. ltb (getD (b .ids) k 0) (getD (b .ids) (suc k) 0)) (b .rows - 1) ≡ allBelow (λ k. ltb (getD (c .ids) k 0) (getD (c .ids) (suc k) 0)) (b .rows - 1) =
-    all-alike _ _ (b .rows - 1) (λ k h. rw (a .same-ids k (omega arith), a .same-ids (suc k) (omega arith))) in
-    let keys : allBelow (λ k. keySize (getD (b .lengths) k 0)) (b .rows) ≡ allBelow (λ k. keySize (getD (c .lengths) k 0)) (b .rows) =
-    all-alike _ _ (b .rows) (λ k h. rw (a .same-lengths k h)) in
+    let ids : ascending (b .ids) (b .rows) ≡ ascending (c .ids) (b .rows) =
+    all-alike _ _ (b .rows - 1) (λ k h. rw (a .same-ids k (omega arith), a .same-ids (k + 1) (omega arith))) in
+    let keys : keySizes (b .lengths) (b .rows) ≡ keySizes (c .lengths) (b .rows) = all-alike _ _ (b .rows) (λ k h. rw (a .same-lengths k h)) in
     rw (ids, keys, a .ids-size, a .lengths-size, a .store-size, a .received-size, a .sent-size, a .same-rows)
 
 pub row-depends : RowDepends

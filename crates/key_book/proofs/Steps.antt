@@ -1,128 +1,84 @@
--- Soundness step by step: what each turn of its loops keeps, and each end of `sizes_agree`, `ids_ascend`, `keys_sized` and `is_sound` as a case of its definition.
+-- Soundness step by step: the ends of `sizes_agree` and `is_sound`, and what the loops of `ids_ascend` and `keys_sized` pass.
 use mathlib.Core.Path.{_≡_, sym, _∙_}
-use mathlib.Core.Logic.{_≢_}
 use mathlib.Core.Bool.{Bool, true, false, not}
 use mathlib.Core.List.{List}
-use Prim.Native.Nat.{ℕ, suc, _+_, _-_, _*_, _≤_, _<_}
+use Prim.Native.Nat.{ℕ, _+_, _-_, _*_, _≤_, _<_}
 use native.Mathlib.Omega.{arith}
-use borrow.Author.Tests.{eq-eqb, ne-eqb, le-leb, lt-leb, lt-ltb, le-ltb, not-true, not-false}
-use borrow.Author.Count.{below-more}
-use lib.Dec.{eqb}
+use borrow.Author.Tests.{eq-eqb, le-leb, lt-leb, lt-ltb, le-ltb, not-true, not-false}
+use lib.Dec.{ltb, eqb}
 use lib.ListN.{length, getD}
 use Rattle.key_book.specs.Limits.{rowsMost, slotSize, roomMost}
-use Rattle.key_book.specs.Book.{Book, bookOf, sized, ascending, keySize, keySizes, sound}
-use Rattle.key_book.proofs.Says.{sized-says}
-use Rattle.key_book.proofs.Below.{all-holds, all-fails, both}
+use Rattle.key_book.specs.Book.{Book, bookOf, Sized, Sound, sized, ascending, keySize, keySizes, sound}
+use Rattle.key_book.proofs.Says.{sized-says, sound-says}
+use Rattle.key_book.proofs.Below.{is-false, both, Passed, pass-turn, pass-fails, pass-end}
 
-module _ (ids lengths store received sent : List ℕ) where
+pub not-sized : (b : Book) → (Sized b → ⊥) → false ≡ sized b
+not-sized b h = is-false (sized b) (λ e. h (sized-says b .0 e))
+
+-- all but the last of the sizes agree
+pub sizes-last : (b : Book) → length (b .ids) ≤ roomMost → length (b .lengths) ≡ length (b .ids) → length (b .store) ≡ slotSize * length (b .ids)
+    → length (b .received) ≡ length (b .ids) → eqb (length (b .sent)) (length (b .ids)) ≡ sized b
+unfolding sized
+sizes-last b h₀ h₁ h₂ h₃ = rw (le-leb _ _ h₀, eq-eqb _ _ h₁, eq-eqb _ _ h₂, eq-eqb _ _ h₃)
+
+pub not-sound : (b : Book) → (Sound b → ⊥) → false ≡ sound b
+not-sound b h = is-false (sound b) (λ e. h (sound-says b .0 e))
+
+-- what `sizes_agree` answered, for any row count
+module _ (ids lengths store received sent : List ℕ) (rows : ℕ) (t : Bool) (e : t ≡ sized (bookOf ids lengths store received sent 0)) where
   abbrev lent : Book
-  lent = bookOf ids lengths store received sent 0
+  lent = bookOf ids lengths store received sent rows
 
-  pub sizes-many : roomMost < length ids → false ≡ sized lent
-  unfolding sized
-  sizes-many h = rw (lt-leb _ _ h)
-
-  module _ (h₀ : length ids ≤ roomMost) where
-    pub sizes-lengths : length lengths ≢ length ids → false ≡ sized lent
-    unfolding sized
-    sizes-lengths h = rw (le-leb _ _ h₀, ne-eqb _ _ h)
-
-    module _ (h₁ : length lengths ≡ length ids) where
-      pub sizes-store : length store ≢ slotSize * length ids → false ≡ sized lent
-      unfolding sized
-      sizes-store h = rw (le-leb _ _ h₀, eq-eqb _ _ h₁, ne-eqb _ _ h)
-
-      module _ (h₂ : length store ≡ slotSize * length ids) where
-        pub sizes-received : length received ≢ length ids → false ≡ sized lent
-        unfolding sized
-        sizes-received h = rw (le-leb _ _ h₀, eq-eqb _ _ h₁, eq-eqb _ _ h₂, ne-eqb _ _ h)
-
-        pub sizes-sent : length received ≡ length ids → eqb (length sent) (length ids) ≡ sized lent
-        unfolding sized
-        sizes-sent h = rw (le-leb _ _ h₀, eq-eqb _ _ h₁, eq-eqb _ _ h₂, eq-eqb _ _ h)
-
-  -- what agreeing sizes say of the key lengths
-  pub sized-lengths : (t : Bool) → t ≡ sized lent → not t ≡ false → length lengths ≡ length ids
-  sized-lengths t e g = sized-says lent .0 (sym e ∙ not-false t g) .lengths-agree
-
--- the first k ids ascend from each to the next
-pub record Rising (ids : List ℕ) (rows k : ℕ) : Type 0 where
-  pub from-one : 1 ≤ k
-  pub to-rows : k ≤ rows + 1
-  pub rise : (j : ℕ) → j < k - 1 → getD ids j 0 < getD ids (suc j) 0
-
-module _ (ids : List ℕ) (rows : ℕ) where
-  pub rising-start : Rising ids rows 1
-  rising-start = record { from-one = omega arith; to-rows = omega arith; rise = λ j h. absurd (omega arith) }
-
-  pub rising-turn : (k : ℕ) → k < rows → getD ids (k - 1) 0 < getD ids k 0 → Rising ids rows k → Rising ids rows (k + 1)
-  rising-turn k h l s =
-      let from = s .from-one in
-      let e : k ≡ suc (k - 1) = omega arith in
-      let m : k - 1 + 1 ≡ k + 1 - 1 = omega arith in
-      let l′ : getD ids (k - 1) 0 < getD ids (suc (k - 1)) 0 = rw (← e) l in
-      record { from-one = omega arith; to-rows = omega arith; rise = rw m at (below-more (λ (j : ℕ). getD ids j 0 < getD ids (suc j) 0) (k - 1) (s .rise) l′) }
-
-  pub rising-end : (k : ℕ) → rows ≤ k → Rising ids rows k → true ≡ ascending ids rows
-  unfolding ascending
-  rising-end k h s = sym (all-holds _ (rows - 1) (λ j l. lt-ltb _ _ (s .rise j (omega arith))))
-
-  pub rising-fails : (k : ℕ) → Rising ids rows k → k < rows → getD ids k 0 ≤ getD ids (k - 1) 0 → false ≡ ascending ids rows
-  unfolding ascending
-  rising-fails k s h l =
-      let from = s .from-one in
-      let e : k ≡ suc (k - 1) = omega arith in
-      let l′ : getD ids (suc (k - 1)) 0 ≤ getD ids (k - 1) 0 = rw (← e) l in
-      sym (all-fails _ (rows - 1) (k - 1) (omega arith) (le-ltb _ _ l′))
-
--- the first k key lengths are key lengths
-pub record Keyed (lengths : List ℕ) (rows k : ℕ) : Type 0 where
-  pub to-rows : k ≤ rows
-  pub keys : (j : ℕ) → j < k → keySize (getD lengths j 0) ≡ true
-
-module _ (lengths : List ℕ) (rows : ℕ) where
-  pub keyed-start : Keyed lengths rows 0
-  keyed-start = record { to-rows = omega arith; keys = λ j h. absurd (omega arith) }
-
-  module _ (k : ℕ) (s : Keyed lengths rows k) (h : k < rows) where
-    pub keyed-turn : 1 ≤ getD lengths k 0 → getD lengths k 0 ≤ slotSize → Keyed lengths rows (k + 1)
-    keyed-turn f t = record { to-rows = omega arith; keys = below-more (λ (j : ℕ). keySize (getD lengths j 0) ≡ true) k (s .keys) (both _ _ (le-leb _ _ f) (le-leb _ _ t)) }
-
-    pub keyed-empty : getD lengths k 0 < 1 → false ≡ keySizes lengths rows
-    unfolding keySizes
-    keyed-empty l = sym (all-fails _ rows k h (rw (lt-leb 1 _ l)))
-
-    pub keyed-long : 1 ≤ getD lengths k 0 → slotSize < getD lengths k 0 → false ≡ keySizes lengths rows
-    unfolding keySizes
-    keyed-long f l = sym (all-fails _ rows k h (rw (le-leb 1 _ f, lt-leb _ slotSize l)))
-
-  pub keyed-end : (k : ℕ) → rows ≤ k → Keyed lengths rows k → true ≡ keySizes lengths rows
-  unfolding keySizes
-  keyed-end k h s = sym (all-holds _ rows (λ j l. s .keys j (omega arith)))
-
-module _ (ids lengths store received sent : List ℕ) (rows : ℕ) where
-  abbrev whole : Book
-  whole = bookOf ids lengths store received sent rows
-
-  pub sound-sizes : (t : Bool) → t ≡ sized (bookOf ids lengths store received sent 0) → not t ≡ true → false ≡ sound whole
+  pub sound-sizes : not t ≡ true → false ≡ sound lent
   unfolding sound sized
-  sound-sizes t e f = rw (sym e ∙ not-true t f)
+  sound-sizes f = rw (sym e ∙ not-true t f)
 
-  module _ (t : Bool) (e : t ≡ sized (bookOf ids lengths store received sent 0)) (g : not t ≡ false) where
-    pub sound-room : length ids < rows → false ≡ sound whole
+  pub sizes-kept : not t ≡ false → Sized lent
+  unfolding sized
+  sizes-kept g = sized-says lent .0 (sym e ∙ not-false t g)
+
+  -- with the sizes and the row count, the ids and the key lengths decide
+  module _ (g : not t ≡ false) (h : rows ≤ length ids) (k : rows ≤ rowsMost) (a : Bool) (ea : a ≡ ascending ids rows) where
+    pub sound-order : not a ≡ true → false ≡ sound lent
     unfolding sound sized
-    sound-room h = rw (sym e ∙ not-false t g, lt-leb _ _ h)
+    sound-order f = rw (sym e ∙ not-false t g, le-leb _ _ h, le-leb _ _ k, sym ea ∙ not-true a f)
 
-    module _ (h₀ : rows ≤ length ids) where
-      pub sound-many : rowsMost < rows → false ≡ sound whole
-      unfolding sound sized
-      sound-many h = rw (sym e ∙ not-false t g, le-leb _ _ h₀, lt-leb _ _ h)
+    pub sound-keys : not a ≡ false → (r : Bool) → r ≡ keySizes lengths rows → r ≡ sound lent
+    unfolding sound sized
+    sound-keys f r er = rw (sym e ∙ not-false t g, le-leb _ _ h, le-leb _ _ k, sym ea ∙ not-false a f) er
 
-      module _ (h₁ : rows ≤ rowsMost) (a : Bool) (ea : a ≡ ascending ids rows) where
-        pub sound-order : not a ≡ true → false ≡ sound whole
-        unfolding sound sized
-        sound-order f = rw (sym e ∙ not-false t g, le-leb _ _ h₀, le-leb _ _ h₁, sym ea ∙ not-true a f)
+-- an id is below the next
+abbrev pub rises : List ℕ → ℕ → Bool
+rises ids k = ltb (getD ids k 0) (getD ids (k + 1) 0)
 
-        pub sound-keys : (k : Bool) → not a ≡ false → k ≡ keySizes lengths rows → k ≡ sound whole
-        unfolding sound sized
-        sound-keys k ga ek = rw (sym e ∙ not-false t g, le-leb _ _ h₀, le-leb _ _ h₁, sym ea ∙ not-false a ga) ek
+module _ (ids : List ℕ) (rows : ℕ) {k : ℕ} (s : Passed (rises ids) (rows - 1) k) where
+  pub rises-fails : k + 1 < rows → getD ids (k + 1) 0 ≤ getD ids k 0 → false ≡ ascending ids rows
+  unfolding ascending
+  rises-fails h l = pass-fails (rises ids) (rows - 1) k (omega arith) (le-ltb _ _ l)
+
+  pub rises-turn : k + 1 < rows → getD ids k 0 < getD ids (k + 1) 0 → Passed (rises ids) (rows - 1) (k + 1)
+  rises-turn h l = pass-turn (rises ids) (rows - 1) k s (omega arith) (lt-ltb _ _ l)
+
+  pub rises-end : rows ≤ k + 1 → true ≡ ascending ids rows
+  unfolding ascending
+  rises-end h = pass-end (rises ids) (rows - 1) k s (omega arith)
+
+-- a key length is one
+abbrev pub keyed : List ℕ → ℕ → Bool
+keyed lengths k = keySize (getD lengths k 0)
+
+module _ (lengths : List ℕ) (rows : ℕ) {k : ℕ} (s : Passed (keyed lengths) rows k) where
+  pub keyed-empty : k < rows → getD lengths k 0 < 1 → false ≡ keySizes lengths rows
+  unfolding keySizes
+  keyed-empty h l = pass-fails (keyed lengths) rows k h (rw (lt-leb 1 _ l))
+
+  pub keyed-long : k < rows → 1 ≤ getD lengths k 0 → slotSize < getD lengths k 0 → false ≡ keySizes lengths rows
+  unfolding keySizes
+  keyed-long h f l = pass-fails (keyed lengths) rows k h (rw (le-leb 1 _ f, lt-leb _ slotSize l))
+
+  pub keyed-turn : k < rows → 1 ≤ getD lengths k 0 → getD lengths k 0 ≤ slotSize → Passed (keyed lengths) rows (k + 1)
+  keyed-turn h f l = pass-turn (keyed lengths) rows k s h (both _ _ (le-leb _ _ f) (le-leb _ _ l))
+
+  pub keyed-end : rows ≤ k → true ≡ keySizes lengths rows
+  unfolding keySizes
+  keyed-end h = pass-end (keyed lengths) rows k s h

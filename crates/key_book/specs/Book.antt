@@ -1,6 +1,5 @@
--- The key book as it is lent, when it is sound, the row of a secret id and the key of a row: document 01, 'The key book'.
--- `Sound` is the paper's sentence and `sound` computes it; specs/Laws.antt states that they agree.
--- A new row has received 0, and a check takes only a counter above the received one: so counter 0 is never accepted.
+-- The key book as it is lent, when it is sound, the row of a secret id and the key of a row: docs/RULES.md, 'The key book'.
+-- `Sound` is the rules' sentence and `sound` computes it; specs/Laws.antt states that they agree.
 use mathlib.Core.Path.{_≡_}
 use mathlib.Core.Bool.{Bool, true, cond, _&&_}
 use mathlib.Core.List.{List, [], _∷_}
@@ -63,7 +62,7 @@ sized b =
 
 -- each of the first n ids is below the next of them
 unfoldable pub ascending : List ℕ → ℕ → Bool
-ascending ids n = allBelow (λ k. ltb (getD ids k 0) (getD ids (suc k) 0)) (n - 1)
+ascending ids n = allBelow (λ k. ltb (getD ids k 0) (getD ids (k + 1) 0)) (n - 1)
 
 -- a key length is one
 abbrev pub keySize : ℕ → Bool

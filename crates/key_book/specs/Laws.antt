@@ -1,4 +1,4 @@
--- What is proved of a key book's definitions, each as a closed statement: document 01, 'The key book'. The proofs are in proofs/Says.antt.
+-- What is proved of a key book's definitions, each as a closed statement: docs/RULES.md, 'The key book'. The proofs are in proofs/Says.antt.
 use mathlib.Core.Path.{_≡_}
 use mathlib.Core.Logic.{_↔_, _≢_}
 use mathlib.Core.Bool.{true}
@@ -8,7 +8,7 @@ use lib.ListN.{length, getD, take}
 use Rattle.key_book.specs.Limits.{slotSize}
 use Rattle.key_book.specs.Book.{Book, Sized, Sound, sized, sound, rowOf, keyOf, keyStart}
 
--- the computed tests are the paper's sentences
+-- the computed tests are the rules' sentences
 abbrev pub SizedSays : Type 0
 SizedSays = (b : Book) → (sized b ≡ true) ↔ Sized b
 

@@ -1,4 +1,4 @@
--- The limits of a key book, each named once: document 01, 'The key book'.
+-- The limits of a key book, each named once: docs/RULES.md, 'The key book'.
 use Prim.Native.Nat.{ℕ}
 
 -- the most rows in use

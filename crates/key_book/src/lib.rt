@@ -1,9 +1,8 @@
-// The key book as the host lends it: whether it is sound, the row of a secret id, the key of a row. Document 01, 'The key book'.
+// The key book as the host lends it: whether it is sound, the row of a secret id, the key of a row: docs/RULES.md, 'The key book'.
 // Not here: the counters' meaning (delayed_auth) and the card on which a book is stored (book_card).
 //
 // A book has room for n rows: ids, key lengths and two rows of counters have n elements, and the key store a slot of SLOT_SIZE bytes per row.
 // Only the first `rows` of them are in use. Slot bytes past a key, and rows from `rows` on, affect no answer.
-// A new row has received 0, and a check takes only a counter above the received one: so counter 0 is never accepted.
 ghost use mathlib.Core.Path.{_≡_};
 ghost use Prim.Native.Nat.{_≤_};
 ghost use lib.ListN.{length};
@@ -32,7 +31,10 @@ pub fn sizes_agree(
     received: &[u64],
     sent: &[u64],
 ) -> bool
-    ensures { λ r. ⌜ r ≡ sized (bookOf (now (ids .entry)) (now (lengths .entry)) (now (store .entry)) (now (received .entry)) (now (sent .entry)) 0) ⌝ }
+    ensures { λ r. ⌜
+        (let b = bookOf (now (ids .entry)) (now (lengths .entry)) (now (store .entry)) (now (received .entry)) (now (sent .entry)) 0 in
+        r ≡ sized b)
+        ⌝ }
 {
     let room = ids.len();
     if ROOM_MOST < room {
@@ -55,9 +57,9 @@ fn ids_ascend(ids: &[u32], rows: usize) -> bool
     requires { ⌜ rows ≤ length (now ids) ⌝ }
     ensures { λ r. ⌜ r ≡ ascending (now (ids .entry)) rows ⌝ }
 {
-    let mut k: usize = 1;
-    while k < rows {
-        if ids[k] <= ids[k - 1] {
+    let mut k: usize = 0;
+    while k + 1 < rows {
+        if ids[k + 1] <= ids[k] {
             return false;
         }
         k += 1;
@@ -93,7 +95,10 @@ pub fn is_sound(
     sent: &[u64],
     rows: usize,
 ) -> bool
-    ensures { λ r. ⌜ r ≡ sound (bookOf (now (ids .entry)) (now (lengths .entry)) (now (store .entry)) (now (received .entry)) (now (sent .entry)) rows) ⌝ }
+    ensures { λ r. ⌜
+        (let b = bookOf (now (ids .entry)) (now (lengths .entry)) (now (store .entry)) (now (received .entry)) (now (sent .entry)) rows in
+        r ≡ sound b)
+        ⌝ }
 {
     if !sizes_agree(ids, lengths, store, received, sent) {
         return false;

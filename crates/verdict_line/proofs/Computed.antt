@@ -1,9 +1,9 @@
 -- specs/Examples.antt, computed.
 use mathlib.Core.Path.{refl}
 use Rattle.verdict_line.specs.Decimal.{decimal, digitsTo}
-use Rattle.verdict_line.specs.Line.{acceptedLine, refusedLine, lineOf}
+use Rattle.verdict_line.specs.Line.{acceptedLine, refusedLine}
 use Rattle.verdict_line.specs.Examples.{LineExamples}
 
 pub line-examples : LineExamples
-unfolding lineOf acceptedLine refusedLine decimal digitsTo
+unfolding acceptedLine refusedLine decimal digitsTo
 line-examples = record { accepted-11 = refl; refused-11 = refl; unreadable = refl; zero-digit = refl; inner-zeros = refl }

@@ -4,9 +4,12 @@ use mathlib.Core.List.{List, [], _∷_, _++_}
 use Prim.Native.Nat.{ℕ, zero, suc, _+_, _/_, _%_}
 use lib.Dec.{ltb}
 
--- the character of a digit
+-- the character 0; the other digits follow it
+abbrev pub digitZero : ℕ
+digitZero = 48
+
 abbrev pub digit : ℕ → ℕ
-digit d = 48 + d
+digit d = digitZero + d
 
 -- the number's last digits, at most `most` of them
 unfoldable pub digitsTo : ℕ → ℕ → List ℕ

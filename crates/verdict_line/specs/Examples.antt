@@ -1,4 +1,4 @@
--- The lines of document 01's bench example 9 as ASCII, and `decimal` at its edges. The proof is proofs/Computed.antt.
+-- The lines of bench example 9 (docs/RULES.md, 'Bench examples') as ASCII, and `decimal` at its edges. The proof is proofs/Computed.antt.
 use mathlib.Core.Path.{_≡_}
 use mathlib.Core.List.{[], _∷_}
 use Rattle.refusal.specs.declared.Refusal.the-variants.{Replay}

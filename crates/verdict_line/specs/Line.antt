@@ -1,10 +1,11 @@
--- The line that `judge` writes, as its bytes: document 01, bench example 9.
+-- The line that `judge` writes, as its bytes: docs/RULES.md, 'The program'.
 use mathlib.Core.Path.{_≡_}
 use mathlib.Core.Bool.{cond}
 use mathlib.Core.List.{List, [], _∷_, _++_}
 use Prim.Native.Nat.{ℕ, _+_, _≤_}
 use lib.Dec.{leb}
-use lib.ListN.{length, take, drop}
+use lib.ListN.{length}
+use Rattle.octets.specs.Bytes.{written}
 use Rattle.refusal.specs.Number.{numberOf}
 use Rattle.verdict_line.specs.Decimal.{decimal}
 use Rattle.verdict_line.specs.declared.Line.{Line}
@@ -39,18 +40,20 @@ acceptedLine row counter = acceptedRow ++ decimal row ++ counterWord ++ decimal 
 unfoldable pub refusedLine : ℕ → List ℕ
 refusedLine number = refusedWord ++ decimal number ++ newline
 
-unfoldable pub lineOf : Line → List ℕ
+abbrev pub lineOf : Line → List ℕ
 lineOf (Accepted row counter) = acceptedLine row counter
 lineOf (Refused refusal) = refusedLine (numberOf refusal)
 lineOf Unreadable = unreadableLine
 
--- the bytes of s from a place on, the others as they were
-unfoldable pub placed : List ℕ → ℕ → List ℕ → List ℕ
-placed out at s = take at out ++ s ++ drop (at + length s) out
+-- the bytes of s stand from a place on, the others as they were, and r is the place after them
+pub record PutAt (old : List ℕ) (at : ℕ) (s new : List ℕ) (r : ℕ) : Type 0 where
+  pub place : r ≡ at + length s
+  pub content : new ≡ written at s old
 
--- the bytes of s are at the front, r counts them, and they are no more than a line's
-abbrev pub Made : List ℕ → List ℕ → List ℕ → ℕ → Type 0
-Made old s new r = (r ≡ length s) × (length s ≤ lineMost) × (new ≡ placed old 0 s)
+-- they stand at the front, and are no more than a line's
+pub record Made (old s new : List ℕ) (r : ℕ) : Type 0 where
+  pub put : PutAt old 0 s new r
+  pub most : length s ≤ lineMost
 
 -- what is returned for so much room: the line's size, or 0 where it does not fit
 unfoldable pub sizeIn : Line → ℕ → ℕ
@@ -58,4 +61,4 @@ sizeIn line room = cond (leb (length (lineOf line)) room) (length (lineOf line))
 
 -- the room afterwards: the line at its front and the rest as it was, or nothing changed where it does not fit
 unfoldable pub outAfter : Line → List ℕ → List ℕ
-outAfter line out = cond (leb (length (lineOf line)) (length out)) (lineOf line ++ drop (length (lineOf line)) out) out
+outAfter line out = cond (leb (length (lineOf line)) (length out)) (written 0 (lineOf line) out) out

@@ -1,4 +1,4 @@
-// The line that the program `judge` writes, newline included: document 01, bench example 9.
+// The line that the program `judge` writes, newline included: docs/RULES.md, 'The program'.
 //   accepted row R counter C
 //   refused N
 //   unreadable
@@ -7,7 +7,7 @@ ghost use mathlib.Core.Path.{_≡_};
 ghost use Prim.Native.Nat.{_+_, _≤_};
 ghost use lib.ListN.{length};
 ghost use Rattle.verdict_line.specs.Decimal.{decimal};
-ghost use Rattle.verdict_line.specs.Line.{lineMost, acceptedLine, refusedLine, lineOf, placed, Made, sizeIn, outAfter};
+ghost use Rattle.verdict_line.specs.Line.{lineMost, acceptedLine, refusedLine, lineOf, PutAt, Made, sizeIn, outAfter};
 use refusal::Refusal;
 
 // The bytes of the longest line, with a row and a counter of twenty digits each.
@@ -26,25 +26,19 @@ pub enum Line {
     Unreadable,
 }
 
-// Puts bytes at a place, and returns the place after them.
+// Copies bytes to a place, and returns the place after them.
 fn put(out: &mut [u8], at: usize, bytes: &[u8]) -> usize
     requires { ⌜ at + length (now bytes) ≤ length (now out) ⌝ }
-    ensures place { λ r. ⌜ r ≡ at + length (now (bytes .entry)) ⌝ }
-    ensures content { λ _. ⌜ now (out .exit) ≡ placed (now (out .entry)) at (now (bytes .entry)) ⌝ }
+    ensures { λ r. ⌜ PutAt (now (out .entry)) at (now (bytes .entry)) (now (out .exit)) r ⌝ }
 {
-    let mut i: usize = 0;
-    while i < bytes.len() {
-        out[at + i] = bytes[i];
-        i += 1;
-    }
+    octets::copy(bytes, out, at);
     at + bytes.len()
 }
 
-// Puts a number's digits at a place, and returns the place after them.
+// Writes a number's digits at a place, and returns the place after them.
 fn put_decimal(out: &mut [u8], at: usize, x: u64) -> usize
     requires { ⌜ at + length (decimal x) ≤ length (now out) ⌝ }
-    ensures place { λ r. ⌜ r ≡ at + length (decimal x) ⌝ }
-    ensures content { λ _. ⌜ now (out .exit) ≡ placed (now (out .entry)) at (decimal x) ⌝ }
+    ensures { λ r. ⌜ PutAt (now (out .entry)) at (decimal x) (now (out .exit)) r ⌝ }
 {
     if x < 10 {
         out[at] = DIGIT_ZERO + x as u8;
