@@ -26,9 +26,12 @@ finish-requires : tie.Need-finish-requires
 finish-requires c κs = search needs
 
 returns : tie.Need-returns
-returns c = let b = c .before .before .before .before .before .before .before .before .before in
+returns c = let second = c .before .before .before in
+    let first = second .before .before in
+    let b = first .before .before .before .before in
     let l = block-length b in
-    cc (two-pieces (b .args .t1) (b .args .s .now) (omega (arith, b .pre)))
+    two-pieces (b .args .t1) (b .args .s .now) _ _ _ _ (omega (arith, b .pre))
+    (first .before .before .begin .ensures) (first .feed .ensures) (second .feed2 .ensures) (c .before .finish .ensures)
 
 pub digest-after-spec : {M : Type 1} → statement M
 digest-after-spec =
