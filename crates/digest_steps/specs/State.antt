@@ -1,4 +1,4 @@
--- A digest in progress as it is lent: four words, a tail and a total (document 01, 'MD5 and HMAC-MD5').
+-- A digest in progress as it is lent: four words, a tail and a total (docs/RULES.md, 'Digests').
 use Prim.Native.Nat.{ℕ}
 use mathlib.Core.List.{List, [], _∷_}
 use lib.ListN.{getD}

@@ -3,11 +3,13 @@
 ghost use mathlib.Core.Path.{_≡_};
 ghost use Rattle.md5.specs.Entries.{fresh, feedOf, finishOf};
 ghost use Rattle.digest_steps.specs.State.{stateOf, wordsOf};
+use md5::BLOCK_SIZE;
+use md5::DIGEST_SIZE;
 use md5::Digest;
 use md5::Words;
 
 // The state of four words, a tail and a total.
-fn state_of(words: &[u32; 4], tail: &[u8; 64], total: u64) -> Digest
+fn state_of(words: &[u32; 4], tail: &[u8; BLOCK_SIZE], total: u64) -> Digest
     ensures { λ r. ⌜ r ≡ stateOf (now (words .entry)) (now (tail .entry)) total ⌝ }
 {
     let bytes = *tail;
@@ -25,7 +27,7 @@ fn state_of(words: &[u32; 4], tail: &[u8; 64], total: u64) -> Digest
 
 // A fresh state.
 #[no_mangle]
-pub extern "C" fn digest_begin(words: &mut [u32; 4], tail: &mut [u8; 64], total: &mut u64)
+pub extern "C" fn digest_begin(words: &mut [u32; 4], tail: &mut [u8; BLOCK_SIZE], total: &mut u64)
     ensures words { λ _. ⌜ now (words .exit) ≡ wordsOf fresh ⌝ }
     ensures tail { λ _. ⌜ now (tail .exit) ≡ fresh .tail ⌝ }
     ensures total { λ _. ⌜ now (total .exit) ≡ fresh .total ⌝ }
@@ -42,19 +44,25 @@ pub extern "C" fn digest_begin(words: &mut [u32; 4], tail: &mut [u8; 64], total:
 #[no_mangle]
 pub extern "C" fn digest_feed(
     words: &mut [u32; 4],
-    tail: &mut [u8; 64],
+    tail: &mut [u8; BLOCK_SIZE],
     total: &mut u64,
     piece: &[u8],
 ) -> u8
-    ensures number { λ r. ⌜ r ≡ feedOf (stateOf (now (words .entry)) (now (tail .entry)) (now (total .entry))) (now (piece .entry)) .number ⌝ }
+    ensures number { λ r. ⌜
+        (let d = stateOf (now (words .entry)) (now (tail .entry)) (now (total .entry)) in
+        r ≡ feedOf d (now (piece .entry)) .number)
+        ⌝ }
     ensures words { λ _. ⌜
-        now (words .exit) ≡ wordsOf (feedOf (stateOf (now (words .entry)) (now (tail .entry)) (now (total .entry))) (now (piece .entry)) .state)
+        (let d = stateOf (now (words .entry)) (now (tail .entry)) (now (total .entry)) in
+        now (words .exit) ≡ wordsOf (feedOf d (now (piece .entry)) .state))
         ⌝ }
     ensures tail { λ _. ⌜
-        now (tail .exit) ≡ feedOf (stateOf (now (words .entry)) (now (tail .entry)) (now (total .entry))) (now (piece .entry)) .state .tail
+        (let d = stateOf (now (words .entry)) (now (tail .entry)) (now (total .entry)) in
+        now (tail .exit) ≡ feedOf d (now (piece .entry)) .state .tail)
         ⌝ }
     ensures total { λ _. ⌜
-        now (total .exit) ≡ feedOf (stateOf (now (words .entry)) (now (tail .entry)) (now (total .entry))) (now (piece .entry)) .state .total
+        (let d = stateOf (now (words .entry)) (now (tail .entry)) (now (total .entry)) in
+        now (total .exit) ≡ feedOf d (now (piece .entry)) .state .total)
         ⌝ }
 {
     let fed = state_of(words, tail, *total).feed(piece);
@@ -71,9 +79,9 @@ pub extern "C" fn digest_feed(
 #[no_mangle]
 pub extern "C" fn digest_finish(
     words: &[u32; 4],
-    tail: &[u8; 64],
+    tail: &[u8; BLOCK_SIZE],
     total: u64,
-    digest: &mut [u8; 16],
+    digest: &mut [u8; DIGEST_SIZE],
 ) -> u8
     ensures number { λ r. ⌜ r ≡ finishOf (stateOf (now (words .entry)) (now (tail .entry)) total) .number ⌝ }
     ensures bytes { λ _. ⌜ now (digest .exit) ≡ finishOf (stateOf (now (words .entry)) (now (tail .entry)) total) .digest ⌝ }

@@ -141,10 +141,10 @@ tail-short tail s used l h =
     ∙ cleared-from (used + length s) (written used s tail) (omega arith)
     ∙ ap₂ filled (n ∙ l) (take-written used s tail (omega arith))
 
--- the bytes that fill it, through the block function
-pub tail-full : (tail s : List ℕ) (used gap : ℕ) (w : Words) → length tail ≡ blockSize → used + gap ≡ blockSize → gap ≤ length s
-    → let full = written used (take gap s) tail in blocks (length full / blockSize) full w ≡ compress w (load (take used tail ++ take gap s))
-tail-full tail s used gap w l g h =
+-- the bytes that fill it
+pub tail-full : (tail s : List ℕ) (used gap : ℕ) → length tail ≡ blockSize → used + gap ≡ blockSize → gap ≤ length s
+    → take blockSize (written used (take gap s) tail) ≡ take used tail ++ take gap s
+tail-full tail s used gap l g h =
     let k = length-take-le gap s h in
     let n = length-written used (take gap s) tail (omega arith) in
-    blocks-one (written used (take gap s) tail) w (omega arith) ∙ ap (λ (b : List ℕ). compress w (load b)) (written-last used (take gap s) tail (omega arith))
+    take-all blockSize (written used (take gap s) tail) (omega arith) ∙ written-last used (take gap s) tail (omega arith)

@@ -1,20 +1,21 @@
 -- Laws of a round's steps and of `blocks`: a turn of each loop of the code, and blocks one after the other.
-use mathlib.Core.Path.{_≡_, refl, sym, ap, ap₂, _∙_}
+use mathlib.Core.Path.{_≡_, sym, ap, ap₂, _∙_}
 use mathlib.Core.List.{List, _++_}
 use Prim.Native.Nat.{ℕ, zero, suc, _+_, _*_, _/_, _%_, _≤_, _<_}
 use native.Mathlib.Nat.{zero-add}
+use native.Mathlib.Numerals.{add-one}
 use native.Mathlib.Omega.{arith}
 use lib.ListN.{length, getD, take, drop, length-drop}
 use lib.Seq.{take-append-le, drop-append-le, take-all, drop-drop}
 use Rattle.md5.specs.declared.Words.{Words}
 use Rattle.md5.specs.Word.{blockWords, wordNo, additive, rotations}
-use Rattle.md5.specs.Block.{blockSize, stepWith, stepAt, compress, load, blocks}
+use Rattle.md5.specs.Block.{blockSize, stepWith, stepAt, steps, compress, load, blocks}
 
--- one step of a round, from what the code reads
-pub step-read : (x : List ℕ) (r i k : ℕ) (v w : Words) → k ≡ wordNo r i → v ≡ w
-    → stepWith r (getD x k 0) (getD additive (blockWords * r + i) 0) (getD rotations (4 * r + i % 4) 0) v ≡ stepAt x r i w
-unfolding stepAt
-step-read x r i k v w p q = rw (p, q)
+-- one step more of a round, from what the code reads
+pub step-read : (x : List ℕ) (r i k : ℕ) (u v w : Words) → k ≡ wordNo r i → v ≡ steps x r i w
+    → u ≡ stepWith r (getD x k 0) (getD additive (blockWords * r + i) 0) (getD rotations (4 * r + i % 4) 0) v → u ≡ steps x r (i + 1) w
+unfolding steps stepAt
+step-read x r i k u v w p q e = rw (e, p, q, add-one)
 
 -- less than a block, and a block in front
 module _ (s : List ℕ) (w : Words) where

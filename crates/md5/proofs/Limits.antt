@@ -1,5 +1,5 @@
 -- The proof of specs/Limits.antt: each entry's two cases, at the limit and one past it.
-use mathlib.Core.Path.{refl, ap}
+use mathlib.Core.Path.{ap}
 use native.Mathlib.Omega.{arith}
 use Rattle.md5.specs.declared.Fed.{Fed}
 use Rattle.md5.specs.declared.Finished.{Finished}

@@ -2,6 +2,7 @@
 ghost use mathlib.Core.Path.{_≡_};
 ghost use Prim.Native.Nat.{_+_, _/_, _<_, _≤_};
 ghost use lib.ListN.{length, take, drop};
+ghost use Rattle.octets.specs.Numbers.{littleAt};
 ghost use Rattle.md5.specs.Block.{blockSize, stepWith, round, compress, load, blocks};
 use crate::BLOCK_SIZE;
 use crate::Words;
@@ -54,7 +55,7 @@ fn one_round(w: Words, x: [u32; BLOCK_WORDS], r: usize) -> Words
 }
 
 // One block through the four rounds, added to the words before it.
-fn block(w: Words, x: [u32; BLOCK_WORDS]) -> Words
+pub(crate) fn block(w: Words, x: [u32; BLOCK_WORDS]) -> Words
     ensures { λ v. ⌜ v ≡ compress w x ⌝ }
 {
     let w0 = one_round(w, x, 0);
@@ -69,15 +70,23 @@ fn block(w: Words, x: [u32; BLOCK_WORDS]) -> Words
     }
 }
 
+// The word at byte `at`, the lowest byte first.
+fn word(s: &[u8], at: usize) -> u32
+    requires { ⌜ at + 4 ≤ length (now s) ⌝ }
+    ensures { λ v. ⌜ v ≡ littleAt (now (s .entry)) at 4 ⌝ }
+{
+    octets::little(s, at, 4) as u32
+}
+
 // The sixteen words of the block at byte `at`.
-fn words_of(s: &[u8], at: usize) -> [u32; BLOCK_WORDS]
+pub(crate) fn words_of(s: &[u8], at: usize) -> [u32; BLOCK_WORDS]
     requires { ⌜ at + blockSize ≤ length (now s) ⌝ }
     ensures { λ v. ⌜ v ≡ load (take blockSize (drop at (now (s .entry)))) ⌝ }
 {
     let mut x = [0u32; BLOCK_WORDS];
     let mut i: usize = 0;
     while i < BLOCK_WORDS {
-        x[i] = octets::little(s, at + 4 * i, 4) as u32;
+        x[i] = word(s, at + 4 * i);
         i += 1;
     }
     x

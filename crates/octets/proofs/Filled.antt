@@ -1,10 +1,10 @@
 -- Laws of zeros, alone and behind a list.
 use mathlib.Core.Path.{_≡_, refl, sym, ap, _∙_}
-use mathlib.Core.List.{List, [], _∷_, _++_}
+use mathlib.Core.List.{List, _∷_, _++_}
 use Prim.Native.Nat.{ℕ, zero, suc, _+_, _-_, _≤_}
 use native.Mathlib.Nat.{zero-add}
 use native.Mathlib.Omega.{arith}
-use lib.ListN.{length, take, drop, length-append, length-replicate, drop-of-length-le}
+use lib.ListN.{length, take, drop, length-append, length-replicate}
 use lib.Seq.{take-at, drop-at, length-take-le}
 use Rattle.octets.specs.Bytes.{written, zeros, filled}
 use Rattle.octets.proofs.Written.{written-last}

@@ -5,8 +5,6 @@ use lib.ListN.{length}
 use borrow.Author.Needs.{needs}
 use Rattle.digest_vectors.proofs.show.Statement.{statement}
 use Rattle.digest_vectors.proofs.show.Tie as tie
-use Rattle.io.proofs.print_hex.Reads as print-hex-reads
-use Rattle.io.proofs.write_all.Reads as write-all-reads
 
 abbrev Inv-loop : tie.InvT-loop
 Inv-loop name bytes i₀ t5 i = (i ≤ 16) × (length t5 ≡ 1)

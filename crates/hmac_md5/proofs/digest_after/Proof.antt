@@ -1,10 +1,6 @@
 -- `hmac_md5::digest_after` meets its contract: two pieces from a fresh state.
-use mathlib.Core.Path.{_≡_, ap, _∙_}
+use mathlib.Core.Path.{_≡_}
 use lib.ListN.{length}
-use Rattle.md5.specs.declared.Digest.{Digest}
-use Rattle.md5.specs.declared.Fed.{Fed}
-use Rattle.md5.specs.declared.Finished.{Finished}
-use Rattle.md5.specs.Entries.{feedOf, finishOf}
 use Rattle.hmac_md5.proofs.Masks.{two-pieces}
 use borrow.Author.Needs.{needs}
 use native.Mathlib.Omega.{arith}
@@ -30,14 +26,12 @@ finish-requires : tie.Need-finish-requires
 finish-requires c κs = search needs
 
 returns : tie.Need-returns
-returns c = let a = c .before .before .before .before .before .before .before .before .before .args in
-    let s = a .s .now in
-    let l = block-length (c .before .before .before .before .before .before .before .before .before) in
-    ap (λ (f : Finished). f .digest)
-    (c .before .finish .ensures
-    ∙ ap (λ (f : Fed). finishOf (f .state))
-    (c .before .before .before .feed2 .ensures ∙ ap (λ (f : Fed). feedOf (f .state) s) (c .before .before .before .before .before .feed .ensures ∙ ap (λ (d : Digest). feedOf d (a .t1)) (c .before .before .before .before .before .before .before .begin .ensures)))
-    ∙ two-pieces (a .t1) s (omega (arith, c .before .before .before .before .before .before .before .before .before .pre)))
+returns c = let second = c .before .before .before in
+    let first = second .before .before in
+    let b = first .before .before .before .before in
+    let l = block-length b in
+    two-pieces (b .args .t1) (b .args .s .now) _ _ _ _ (omega (arith, b .pre))
+    (first .before .before .begin .ensures) (first .feed .ensures) (second .feed2 .ensures) (c .before .finish .ensures)
 
 pub digest-after-spec : {M : Type 1} → statement M
 digest-after-spec =

@@ -1,7 +1,7 @@
 -- `md5::Digest::finish` meets its contract: the padding's bytes are absorbed (proofs/Answers.antt).
 use Prim.Native.Nat.{ℕ}
-use mathlib.Core.Path.{_≡_, sym, ap, _∙_}
-use lib.ListN.{length, length-take}
+use mathlib.Core.Path.{sym, ap, _∙_}
+use lib.ListN.{length-take}
 use lib.Seq.{length-take-le}
 use native.Mathlib.Omega.{arith}
 use Rattle.md5.specs.declared.Finished.{Finished}

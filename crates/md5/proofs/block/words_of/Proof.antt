@@ -1,5 +1,5 @@
 -- `md5::words_of` meets its contract: the first i words are filled.
-use Prim.Native.Nat.{ℕ, _-_, _*_, _≤_, _<_}
+use Prim.Native.Nat.{_-_, _*_, _≤_, _<_}
 use mathlib.Core.Path.{_≡_, refl, sym, _∙_}
 use native.Mathlib.Numerals.{add-one}
 use native.Mathlib.Omega.{arith}
@@ -22,17 +22,14 @@ loop-holds : tie.Need-loop-holds Inv-loop μ-loop
 unfolding loadTo
 loop-holds c = (omega arith, refl, refl)
 
-mul-little : tie.Need-mul-little Inv-loop μ-loop
-mul-little c = omega arith
+mul-word : tie.Need-mul-word Inv-loop μ-loop
+mul-word c = omega arith
 
-add-little : tie.Need-add-little Inv-loop μ-loop
-add-little c = omega arith
+add-word : tie.Need-add-word Inv-loop μ-loop
+add-word c = omega arith
 
-little-requires : tie.Need-little-requires Inv-loop μ-loop
-little-requires c κs = (omega arith, omega arith)
-
-cast-x : tie.Need-cast-x Inv-loop μ-loop
-cast-x c = omega arith
+word-requires : tie.Need-word-requires Inv-loop μ-loop
+word-requires c κs = omega arith
 
 mul-x : tie.Need-mul-x Inv-loop μ-loop
 mul-x c = omega arith
@@ -51,8 +48,8 @@ unfolding loadTo
 loop-again c = let l = c .before .before .loop in
     let a = c .before .before .before .before .args in
     let h : l .i < length (l .x) = omega arith in
-    let e : c .little .result ≡ littleAt (take blockSize (drop (a .at) (a .s .now))) (4 * l .i) 4 =
-    c .little .ensures .0 ∙ sym (number-part (a .s .now) (a .at) blockSize (4 * l .i) 4 (omega arith) (omega arith)) in
+    let e : c .word .result ≡ littleAt (take blockSize (drop (a .at) (a .s .now))) (4 * l .i) 4 =
+    c .word .ensures ∙ sym (number-part (a .s .now) (a .at) blockSize (4 * l .i) 4 (omega arith) (omega arith)) in
     (omega arith, simp length-set (omega arith), rw (add-one, take-suc-set, e, l .inv .2))
 
 returns : tie.Need-returns Inv-loop μ-loop
@@ -68,10 +65,9 @@ words-of-spec =
     Inv-loop
     μ-loop
     loop-holds
-    mul-little
-    add-little
-    little-requires
-    cast-x
+    mul-word
+    add-word
+    word-requires
     mul-x
     array-write-x
     add-i

@@ -6,8 +6,8 @@ use Rattle.md5.specs.declared.Words.{Words}
 use Rattle.md5.specs.Message.{output}
 use Rattle.md5.specs.Entries.{digestSize}
 use borrow.Author.Needs.{needs}
-use Rattle.md5.proofs.entries.bytes_of.Statement.{statement}
-use Rattle.md5.proofs.entries.bytes_of.Tie as tie
+use Rattle.md5.proofs.pieces.bytes_of.Statement.{statement}
+use Rattle.md5.proofs.pieces.bytes_of.Tie as tie
 
 slice-aggregate-put-little : tie.Need-slice-aggregate-put-little
 slice-aggregate-put-little c = search needs

@@ -1,14 +1,14 @@
 -- `md5::absorbed` meets its contract: the two cases of `absorb` (proofs/Absorb.antt).
-use Prim.Native.Nat.{ℕ, _+_, _-_, _%_}
+use Prim.Native.Nat.{ℕ, _-_, _%_}
 use mathlib.Core.Path.{_≡_, sym}
-use lib.ListN.{length, take, drop, length-drop}
+use lib.ListN.{length, drop, length-drop}
 use lib.Seq.{length-take-le, take-all}
 use native.Mathlib.Omega.{arith}
 use Rattle.md5.specs.Block.{blockSize}
 use Rattle.md5.proofs.Absorb.{absorb-short, absorb-long, tail-short, tail-full}
 use borrow.Author.Needs.{needs}
-use Rattle.md5.proofs.entries.absorbed.Statement.{statement}
-use Rattle.md5.proofs.entries.absorbed.Tie as tie
+use Rattle.md5.proofs.pieces.absorbed.Statement.{statement}
+use Rattle.md5.proofs.pieces.absorbed.Tie as tie
 
 tail-long : (c : tie.Start) → length (c .args .d .tail) ≡ blockSize
 tail-long c = search needs
@@ -55,11 +55,14 @@ copy-requires-2 c κs = let b = c .before .before .before .before .before .befor
     let l = tail-long b in
     omega (arith, length-take-le (blockSize - b .args .d .total % blockSize) (b .args .piece .now) (omega arith))
 
-slice-aggregate-whole-blocks : tie.Need-slice-aggregate-whole-blocks
-slice-aggregate-whole-blocks c = search needs
+slice-aggregate-words-of : tie.Need-slice-aggregate-words-of
+slice-aggregate-words-of c = search needs
 
-whole-blocks-requires : tie.Need-whole-blocks-requires
-whole-blocks-requires c κs = search needs
+words-of-requires : tie.Need-words-of-requires
+words-of-requires c κs = search needs
+
+block-requires : tie.Need-block-requires
+block-requires c κs = search needs
 
 sub-settled : tie.Need-sub-settled
 sub-settled c = search needs
@@ -74,7 +77,7 @@ settled-requires : tie.Need-settled-requires
 settled-requires c κs = search needs
 
 returns-2 : tie.Need-returns-2
-returns-2 c = let b = c .before .before .before .before .before .before .before .before .before .before .before .before .before .before in
+returns-2 c = let b = c .before .before .before .before .before .before .before .before .before .before .before .before .before .before .before in
     let d = b .args .d in
     let s = b .args .piece .now in
     let l = tail-long b in
@@ -82,7 +85,7 @@ returns-2 c = let b = c .before .before .before .before .before .before .before 
     let gap : ℕ = blockSize - used in
     cc (
       absorb-long d l s gap (omega arith) (omega arith),
-      tail-full (d .tail) s used gap (d .words) l (omega arith) (omega arith),
+      tail-full (d .tail) s used gap l (omega arith) (omega arith),
       take-all (length s - gap) (drop gap s) (omega (arith, length-drop gap s)),
     )
 
@@ -102,8 +105,9 @@ absorbed-spec =
     slice-aggregate-copy-2
     slice-aggregate-copy-3
     copy-requires-2
-    slice-aggregate-whole-blocks
-    whole-blocks-requires
+    slice-aggregate-words-of
+    words-of-requires
+    block-requires
     sub-settled
     part-settled-start
     part-settled-end

@@ -1,5 +1,5 @@
 -- `md5::settled` meets its contract: the whole blocks, and the last bytes over a tail of zeros.
-use mathlib.Core.Path.{_≡_, ap, _∙_}
+use mathlib.Core.Path.{ap, _∙_}
 use mathlib.Core.List.{List}
 use Prim.Native.Nat.{ℕ, _*_, _/_}
 use lib.ListN.{length, drop}
@@ -9,8 +9,8 @@ use Rattle.md5.specs.Block.{blockSize}
 use Rattle.md5.specs.Entries.{settle}
 use Rattle.md5.proofs.Absorb.{part-rest}
 use borrow.Author.Needs.{needs}
-use Rattle.md5.proofs.entries.settled.Statement.{statement}
-use Rattle.md5.proofs.entries.settled.Tie as tie
+use Rattle.md5.proofs.pieces.settled.Statement.{statement}
+use Rattle.md5.proofs.pieces.settled.Tie as tie
 
 whole-blocks-requires : tie.Need-whole-blocks-requires
 whole-blocks-requires c κs = search needs
