@@ -20,11 +20,11 @@ bytes-zeros zero = tt
 bytes-zeros (suc n) = (omega arith, bytes-zeros n)
 
 pub bench-examples : BenchExamples
-unfolding saidOf checkedOf checkedTokens decodeAt saidBy bigAt
+unfolding formOf checkedOf checkedTokens decodeAt saidBy bigAt
 bench-examples = record {
   example-3-short = refl;
   example-3-long = refl;
-  example-3-passes = λ e. let z : _≡_ {A = ℕ} 0 1 = cc in omega arith;
+  example-3-passes = λ e. omega arith;
   example-4 = refl;
   example-5 = refl;
   example-6 = refl;

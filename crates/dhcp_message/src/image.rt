@@ -5,6 +5,7 @@ ghost use lib.ListN.{length};
 ghost use Rattle.octets.specs.Bytes.{written, zeros};
 ghost use Rattle.dhcp_message.specs.Layout.{macAt, macSize, fullSize};
 ghost use Rattle.dhcp_message.specs.Image.{headZero, coverFits, coverSize, coverLeft};
+use crate::Auth;
 use crate::layout::FULL_SIZE;
 use crate::layout::GIADDR_AT;
 use crate::layout::GIADDR_SIZE;
@@ -12,7 +13,6 @@ use crate::layout::HOPS_AT;
 use crate::layout::HOPS_SIZE;
 use crate::layout::MAC_AT;
 use crate::layout::MAC_SIZE;
-use crate::Auth;
 
 // Whether offsets lie in a message of a size, and what is left without option 82 has place for the fields and fits a room.
 fn covers(size: usize, room: usize, auth: Auth) -> bool

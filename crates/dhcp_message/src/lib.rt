@@ -1,13 +1,13 @@
 // A DHCPv4 message as RFC 3118's delayed authentication sees it: checks 2 to 9 (docs/RULES.md, 'Numbers'), what its option 90 says, the bytes
 // that the MAC covers, and the writers of counter, secret id and MAC.
 // Not here: the key, the MAC itself and the stored counters.
-use refusal::Refusal;
 pub use image::cover;
 pub use layout::COUNTER_AT;
 pub use layout::FULL_SIZE;
 pub use layout::MAC_AT;
 pub use layout::MAC_SIZE;
 pub use layout::MESSAGE_MOST;
+use refusal::Refusal;
 pub use said::form_of;
 pub use seal::put_fields;
 pub use seal::put_mac;

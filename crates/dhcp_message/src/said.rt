@@ -5,6 +5,8 @@ ghost use lib.ListN.{length, getD, drop};
 ghost use Rattle.octets.specs.Bytes.{starts};
 ghost use Rattle.dhcp_message.specs.Layout.{optionHead, lengthAt, methodAt, counterAt, delayed};
 ghost use Rattle.dhcp_message.specs.Said.{saidBy, formSaid, formOf};
+use crate::Auth;
+use crate::Form;
 use crate::layout::ALGORITHM;
 use crate::layout::ALGORITHM_AT;
 use crate::layout::COUNTER_AT;
@@ -18,11 +20,9 @@ use crate::layout::REPLAY_METHOD_AT;
 use crate::layout::REQUEST_LENGTH;
 use crate::layout::SECRET_ID_AT;
 use crate::layout::SECRET_ID_SIZE;
-use crate::scan::shape_of;
 use crate::scan::Places;
 use crate::scan::Shape;
-use crate::Auth;
-use crate::Form;
+use crate::scan::shape_of;
 use refusal::Refusal;
 
 fn is_delayed(message: &[u8], at: usize) -> bool
