@@ -12,8 +12,6 @@ use borrow.Author.Needs.{needs}
 use native.Mathlib.Omega.{arith}
 use Rattle.delayed_auth.proofs.mac_of.Statement.{statement}
 use Rattle.delayed_auth.proofs.mac_of.Tie as tie
-use Rattle.dhcp_message.proofs.cover.Reads as cover-reads
-use Rattle.hmac_md5.proofs.hmac.Reads as hmac-reads
 
 room : (m : List ℕ) → length m ≤ 1472 → length m ≤ length (replicate {A = ℕ} 1472 0)
 room m h = rw (length-replicate {A = ℕ} 1472 0) h

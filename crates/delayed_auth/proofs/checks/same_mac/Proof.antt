@@ -8,8 +8,8 @@ use Rattle.delayed_auth.specs.Check.{sameBytes}
 use Rattle.delayed_auth.proofs.Macs.{same-turn, same-end}
 use borrow.Author.Needs.{needs}
 use native.Mathlib.Omega.{arith}
-use Rattle.delayed_auth.proofs.same_mac.Statement.{statement}
-use Rattle.delayed_auth.proofs.same_mac.Tie as tie
+use Rattle.delayed_auth.proofs.checks.same_mac.Statement.{statement}
+use Rattle.delayed_auth.proofs.checks.same_mac.Tie as tie
 
 abbrev Inv-loop : tie.InvT-loop
 Inv-loop b a same₀ i₀ same i = (i ≤ 16) × ((same && sameBytes (drop i b) (drop i a)) ≡ sameBytes b a)

@@ -2,10 +2,8 @@
 use mathlib.Core.Path.{sym, ap, _∙_}
 use Rattle.delayed_auth.specs.Key.{keyNumber}
 use borrow.Author.Needs.{needs}
-use Rattle.delayed_auth.proofs.key_number.Statement.{statement}
-use Rattle.delayed_auth.proofs.key_number.Tie as tie
-use Rattle.delayed_auth.proofs.named_row.Reads as named-row-reads
-use Rattle.refusal.proofs.number.Reads as number-reads
+use Rattle.delayed_auth.proofs.keys.key_number.Statement.{statement}
+use Rattle.delayed_auth.proofs.keys.key_number.Tie as tie
 
 named-row-requires : tie.Need-named-row-requires
 named-row-requires c κs = search needs
