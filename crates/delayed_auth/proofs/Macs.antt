@@ -1,12 +1,12 @@
 -- Laws of comparing and computing MACs. The only file that unfolds `sameBytes`.
 use mathlib.Core.Path.{_≡_, refl, sym, ap, _∙_}
 use mathlib.Core.Bool.{Bool, true, false, _&&_, and-eq-true-iff}
-use mathlib.Core.List.{List, [], _∷_}
+use mathlib.Core.List.{List, [], _∷_, _++_}
 use Prim.Native.Nat.{ℕ, suc, _+_, _-_, _≤_, _<_}
 use native.Mathlib.Omega.{arith}
 use borrow.Author.Tests.{eq-eqb, eqb-true}
 use lib.Dec.{eqb}
-use lib.ListN.{length, getD, take, drop, length-drop, drop-of-length-le}
+use lib.ListN.{length, getD, take, drop, replicate, length-drop, length-replicate, drop-of-length-le}
 use lib.Seq.{drop-cons, take-at, length-take-le}
 use Rattle.hmac_md5.specs.Hmac.{hmac, hmacOf, keyMost}
 use Rattle.hmac_md5.specs.declared.Mac.{Mac}
@@ -61,26 +61,31 @@ same-itself (x ∷ xs) = rw (eq-eqb x x refl) (same-itself xs)
 pub equal-same : (xs ys : List ℕ) → xs ≡ ys → sameBytes xs ys ≡ true
 equal-same xs ys e = rw (← e) (same-itself xs)
 
--- ---- the MAC over the covered image, as `cover` writes it into a room that is large enough
+-- ---- the MAC over the covered image, which `cover` writes into zeros that have room for any message
 
-module _ (m : List ℕ) (a : Auth) (out : List ℕ) (full : formOf m ≡ Full a) (room : length m ≤ length out) where
-  pub image-size : coverSize m a out ≡ length (imageOf m)
-  image-size = seal-laws .covers m a out full room .0
+module _ (m : List ℕ) (a : Auth) (full : formOf m ≡ Full a) where
+  abbrev zeroRoom : List ℕ
+  zeroRoom = replicate messageMost 0
 
-  pub image-short : length (imageOf m) ≤ length m
-  image-short = omega (arith, full-form m a full .image-size)
+  covers : (coverSize m a zeroRoom ≡ length (imageOf m)) × (coverLeft m a zeroRoom ≡ imageOf m ++ drop (length (imageOf m)) zeroRoom)
+  covers = seal-laws .covers m a zeroRoom full (rw (length-replicate {A = ℕ} messageMost 0) (full-form m a full .most))
 
-  pub image-front : (size : ℕ) (left : List ℕ) → size ≡ coverSize m a out → left ≡ coverLeft m a out → take size left ≡ imageOf m
-  image-front size left e f =
-      ap (λ (n : ℕ). take n left) (e ∙ image-size)
-      ∙ ap (take (length (imageOf m))) (f ∙ seal-laws .covers m a out full room .1)
-      ∙ take-at (imageOf m) (drop (length (imageOf m)) out) (length (imageOf m)) refl
+  image-short : length (imageOf m) ≤ messageMost
+  image-short = let f = full-form m a full in omega (arith, f .image-size, f .most)
 
-pub mac-right : (key m : List ℕ) (a : Auth) → formOf m ≡ Full a → length key ≤ keyMost → hmacOf key (imageOf m) .mac ≡ hmac key (imageOf m)
-mac-right key m a full h =
-    let f = full-form m a full in
-    let s : length (imageOf m) ≤ messageMost = omega (arith, f .image-size, f .most) in
-    ap (λ (r : Mac). r .mac) (hmac-taken key (imageOf m) h (omega arith))
+  pub cover-short : (size : ℕ) → size ≡ coverSize m a zeroRoom → size ≤ messageMost
+  cover-short size e = omega (arith, image-short, covers .0)
+
+  pub cover-front : (size : ℕ) (left : List ℕ) → size ≡ coverSize m a zeroRoom → left ≡ coverLeft m a zeroRoom → take size left ≡ imageOf m
+  cover-front size left e f =
+      ap (λ (n : ℕ). take n left) (e ∙ covers .0)
+      ∙ ap (take (length (imageOf m))) (f ∙ covers .1)
+      ∙ take-at (imageOf m) (drop (length (imageOf m)) zeroRoom) (length (imageOf m)) refl
+
+  pub mac-right : (key text : List ℕ) → length key ≤ keyMost → text ≡ imageOf m → hmacOf key text .mac ≡ hmac key (imageOf m)
+  mac-right key text h e =
+      ap (λ (x : List ℕ). hmacOf key x .mac) e
+      ∙ ap (λ (r : Mac). r .mac) (hmac-taken key (imageOf m) h (omega (arith, image-short)))
 
 -- ---- the MAC that stands in a message
 

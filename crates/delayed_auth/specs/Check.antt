@@ -7,7 +7,6 @@ use mathlib.Core.Option.{Option, none, some}
 use lib.Dec.{ltb, eqb}
 use lib.ListN.{getD, set}
 use Rattle.refusal.specs.Number.{numberOf, done}
-use Rattle.refusal.specs.declared.Refusal.{Refusal}
 use Rattle.refusal.specs.declared.Refusal.the-variants.{UnknownSecret, Replay, WrongMac}
 use Rattle.hmac_md5.specs.Hmac.{hmac}
 use Rattle.dhcp_message.specs.Said.{Said, refused, says}
