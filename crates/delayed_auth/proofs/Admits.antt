@@ -81,6 +81,7 @@ pub record RowFacts (b : Book) (k : ℕ) : Type 0 where
   pub in-sent : k < length (b .sent)
   pub key-short : length (keyOf b k) ≤ keyMost
   pub key-start : keyStart (b .store) (b .lengths) k ≡ slotSize * k
+  pub slot-inside : slotSize * k ≤ length (b .store)
 
 pub row-facts : (b : Book) (id k : ℕ) → sound b ≡ true → rowOf b id ≡ some k → RowFacts b k
 row-facts b id k s e =
@@ -94,4 +95,5 @@ row-facts b id k s e =
       in-sent = i .in-sent;
       key-short = omega (arith, q .to-slot);
       key-start = q .start;
+      slot-inside = omega (arith, i .in-ids, w .sizes .store-agrees);
     }

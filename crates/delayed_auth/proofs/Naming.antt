@@ -4,19 +4,19 @@ use mathlib.Core.Path.{_≡_, refl, sym, ap, _∙_}
 use mathlib.Core.Bool.{true, false}
 use mathlib.Core.List.{List}
 use mathlib.Core.Option.{Option, none, some}
-use Prim.Native.Nat.{ℕ, _*_}
+use Prim.Native.Nat.{ℕ}
 use native.Mathlib.Nat.{zero-add}
 use Rattle.refusal.specs.declared.Refusal.{Refusal}
 use Rattle.refusal.specs.declared.Refusal.the-variants.{UnsoundBook}
 use Rattle.dhcp_message.specs.Said.{Said, refused, says, saidOf, idOf, named, formOf}
 use Rattle.dhcp_message.specs.declared.Auth.{Auth}
 use Rattle.dhcp_message.specs.declared.Form.the-variants.{Refused as FormRefused, Full}
-use Rattle.key_book.specs.Limits.{slotSize}
-use Rattle.key_book.specs.Book.{Book, sound, rowOf, keyStart, movedOn}
+use Rattle.key_book.specs.Book.{Book, sound, rowOf, movedOn}
 use Rattle.delayed_auth.specs.declared.Keyed.the-variants.{Row, NoKey}
 use Rattle.delayed_auth.specs.Admit.{admittedSaid, admittedForm}
 use Rattle.delayed_auth.specs.Key.{keyedRow, keyedSaid, keyedOf}
-use Rattle.delayed_auth.proofs.Admits.{never, admit-unsound, admit-sound, said-sound, admit-says, admitted-says, admit-alike, row-facts}
+use Rattle.delayed_auth.proofs.Admits.{never, admit-unsound, admit-sound, said-sound, admit-says, admitted-says, admit-alike}
+use Rattle.delayed_auth.proofs.Admits.{RowFacts, row-facts}
 
 -- ---- the leaves
 
@@ -78,9 +78,8 @@ module _ (b : Book) (m : List ℕ) (k : ℕ) where
       on (refused r) e h = never cc
       on (says c id mac) e h = row c id mac e (rowOf b id) refl h
 
-  -- the key of a named row starts where its slot does
-  pub key-within : Row k ≡ keyedOf b m → keyStart (b .store) (b .lengths) k ≡ slotSize * k
-  key-within e = let w = keyed-by e in row-facts b (w .id) k (w .is-sound) (w .secret) .key-start
+  pub keyed-facts : Row k ≡ keyedOf b m → RowFacts b k
+  keyed-facts e = let w = keyed-by e in row-facts b (w .id) k (w .is-sound) (w .secret)
 
 -- what a key reads: what the message says, soundness and the row of the named id
 pub key-alike : (a b : Book) (m : List ℕ) → sound a ≡ sound b → ((id : ℕ) → rowOf a id ≡ rowOf b id) → keyedOf a m ≡ keyedOf b m

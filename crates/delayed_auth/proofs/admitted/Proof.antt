@@ -6,17 +6,11 @@ use Rattle.delayed_auth.proofs.Admits.{admit-unsound, admit-sound}
 use Rattle.delayed_auth.proofs.admitted.Statement.{statement}
 use Rattle.delayed_auth.proofs.admitted.Tie as tie
 
-is-sound-requires : tie.Need-is-sound-requires
-is-sound-requires c κs = search needs
-
 returns : tie.Need-returns
 returns c = admit-unsound _ _ (sym (c .before .is-sound .ensures) ∙ not-true _ (c .if1 .taken))
-
-form-of-requires : tie.Need-form-of-requires
-form-of-requires c κs = search needs
 
 returns-2 : tie.Need-returns-2
 returns-2 c = c .form-of .ensures ∙ admit-sound _ _ (sym (c .before .before .is-sound .ensures) ∙ not-false _ (c .before .if1 .left))
 
 pub admitted-spec : {M : Type 1} → statement M
-admitted-spec = tie.close (tie.spec is-sound-requires returns form-of-requires returns-2)
+admitted-spec = tie.close (tie.spec (search needs) returns (search needs) returns-2)

@@ -16,20 +16,11 @@ start c = c .before .before .before .before
 short : (c : tie.After-cover) → c .cover .result ≤ messageMost
 short c = cover-short _ _ (start c .pre .0) _ (c .cover .ensures .0)
 
-slice-aggregate-cover : tie.Need-slice-aggregate-cover
-slice-aggregate-cover c = search needs
-
-cover-requires : tie.Need-cover-requires
-cover-requires c κs = search needs
-
 array-share-prefix-image : tie.Need-array-share-prefix-image
 array-share-prefix-image c = omega (arith, c .before .cover .kept .1 .1 .0, short (c .before))
 
 slice-aggregate-hmac : tie.Need-slice-aggregate-hmac
 slice-aggregate-hmac c = let d = c .before .before in sym (length-take-le _ _ (omega (arith, d .cover .kept .1 .1 .0, short d)))
-
-hmac-requires : tie.Need-hmac-requires
-hmac-requires c κs = search needs
 
 returns : tie.Need-returns
 returns c =
@@ -43,9 +34,9 @@ pub mac-of-spec : {M : Type 1} → statement M
 mac-of-spec =
     tie.close
     (tie.spec
-    slice-aggregate-cover
-    cover-requires
+    (search needs)
+    (search needs)
     array-share-prefix-image
     slice-aggregate-hmac
-    hmac-requires
+    (search needs)
     returns)

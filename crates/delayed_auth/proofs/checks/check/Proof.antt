@@ -17,29 +17,14 @@ book c = let a = start c .args in bookOf (a .ids .now) (a .lengths .now) (a .sto
 facts : (c : tie.After-verdict) → RowFacts (book (c .before .before)) (c .verdict .given .0 .0)
 facts c = accepted-facts _ _ _ _ (sym (c .verdict .given .1) ∙ c .before .before .judged .ensures)
 
-judged-requires : tie.Need-judged-requires
-judged-requires c κs = search needs
-
-enum-known-verdict : tie.Need-enum-known-verdict
-enum-known-verdict c = search needs
-
 mul-received : tie.Need-mul-received
 mul-received c = omega (arith, facts (c .before) .few)
 
 slice-write-received : tie.Need-slice-write-received
 slice-write-received c = facts (c .before) .in-received
 
-enum-known-verdict-2 : tie.Need-enum-known-verdict-2
-enum-known-verdict-2 c = search needs
-
-same-length : tie.Need-same-length
-same-length c = search needs
-
 returns : tie.Need-returns
 returns c = check-ends _ _ _ (sym (c .before .verdict .given .1) ∙ c .before .before .before .judged .ensures)
-
-same-length-2 : tie.Need-same-length-2
-same-length-2 c = search needs
 
 returns-2 : tie.Need-returns-2
 returns-2 c = check-ends _ _ _ (sym (c .before .verdict2 .given .1) ∙ c .before .before .before .judged .ensures)
@@ -48,12 +33,12 @@ pub check-spec : {M : Type 1} → statement M
 check-spec =
     tie.close
     (tie.spec
-    judged-requires
-    enum-known-verdict
+    (search needs)
+    (search needs)
     mul-received
     slice-write-received
-    enum-known-verdict-2
-    same-length
+    (search needs)
+    (search needs)
     returns
-    same-length-2
+    (search needs)
     returns-2)

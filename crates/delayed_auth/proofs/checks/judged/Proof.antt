@@ -5,15 +5,6 @@ use borrow.Author.Needs.{needs}
 use Rattle.delayed_auth.proofs.checks.judged.Statement.{statement}
 use Rattle.delayed_auth.proofs.checks.judged.Tie as tie
 
-admitted-requires : tie.Need-admitted-requires
-admitted-requires c κs = search needs
-
-enum-known-form : tie.Need-enum-known-form
-enum-known-form c = search needs
-
-enum-known-form-2 : tie.Need-enum-known-form-2
-enum-known-form-2 c = search needs
-
 judged-full-requires : tie.Need-judged-full-requires
 judged-full-requires c κs = sym (c .before .form2 .given .1) ∙ c .before .before .before .admitted .ensures
 
@@ -27,9 +18,9 @@ pub judged-spec : {M : Type 1} → statement M
 judged-spec =
     tie.close
     (tie.spec
-    admitted-requires
-    enum-known-form
-    enum-known-form-2
+    (search needs)
+    (search needs)
+    (search needs)
     judged-full-requires
     returns
     returns-2)

@@ -58,15 +58,6 @@ compared c =
 
 -- ---- the needs
 
-row-of-requires : tie.Need-row-of-requires
-row-of-requires c κs = search needs
-
-enum-known-found : tie.Need-enum-known-found
-enum-known-found c = search needs
-
-enum-told : tie.Need-enum-told
-enum-told c = search needs
-
 returns : tie.Need-returns
 returns c =
     let p = passed (c .before .before .before .before .before .before .before .before .before) in
@@ -84,9 +75,6 @@ returns-2 c =
     let p = passed (start f) in
     check-replay _ _ (p .0) _ (p .1) _ (row f) (c .if1 .taken)
 
-key-of-requires : tie.Need-key-of-requires
-key-of-requires c κs = search needs
-
 mac-of-requires : tie.Need-mac-of-requires
 mac-of-requires c κs =
     let f = found (c .before) in
@@ -97,12 +85,6 @@ add-from c = let f = form (start (found (c .before .before .before))) in omega (
 
 add-to : tie.Need-add-to
 add-to c = let f = form (start (found (c .before .before .before .before))) in omega (arith, f .inside, f .most)
-
-sub-same-mac : tie.Need-sub-same-mac
-sub-same-mac c = search needs
-
-part-same-mac-start : tie.Need-part-same-mac-start
-part-same-mac-start c = search needs
 
 part-same-mac-end : tie.Need-part-same-mac-end
 part-same-mac-end c = omega (arith, form (start (found (c .before .before .before .before))) .inside)
@@ -130,19 +112,19 @@ pub judged-full-spec : {M : Type 1} → statement M
 judged-full-spec =
     tie.close
     (tie.spec
-    row-of-requires
-    enum-known-found
-    enum-told
+    (search needs)
+    (search needs)
+    (search needs)
     returns
     mul-if1
     shared-slice-read-if1
     returns-2
-    key-of-requires
+    (search needs)
     mac-of-requires
     add-from
     add-to
-    sub-same-mac
-    part-same-mac-start
+    (search needs)
+    (search needs)
     part-same-mac-end
     same-mac-requires
     returns-3

@@ -5,18 +5,6 @@ use borrow.Author.Needs.{needs}
 use Rattle.delayed_auth.proofs.keys.key_number.Statement.{statement}
 use Rattle.delayed_auth.proofs.keys.key_number.Tie as tie
 
-named-row-requires : tie.Need-named-row-requires
-named-row-requires c κs = search needs
-
-enum-told : tie.Need-enum-told
-enum-told c = search needs
-
-enum-known-key : tie.Need-enum-known-key
-enum-known-key c = search needs
-
-number-requires : tie.Need-number-requires
-number-requires c κs = search needs
-
 returns : tie.Need-returns
 returns c = ap keyNumber (sym (c .enum-told .given .1) ∙ c .before .before .named-row .ensures)
 
@@ -26,4 +14,4 @@ returns-2 c = c .number .ensures ∙ ap keyNumber (sym (c .before .before .key .
 pub key-number-spec : {M : Type 1} → statement M
 key-number-spec =
     tie.close
-    (tie.spec named-row-requires enum-told enum-known-key number-requires returns returns-2)
+    (tie.spec (search needs) (search needs) (search needs) (search needs) returns returns-2)

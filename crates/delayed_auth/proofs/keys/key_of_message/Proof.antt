@@ -2,30 +2,15 @@
 use mathlib.Core.Path.{sym, ap, _∙_}
 use Rattle.key_book.specs.Book.{movedOn}
 use Rattle.delayed_auth.specs.Key.{keyBytes, keyOffset}
-use Rattle.delayed_auth.proofs.Naming.{key-within, moved-none}
+use Rattle.delayed_auth.proofs.Naming.{keyed-facts, moved-none}
 use borrow.Author.Needs.{needs}
 use Rattle.delayed_auth.proofs.keys.key_of_message.Statement.{statement}
 use Rattle.delayed_auth.proofs.keys.key_of_message.Tie as tie
 
-named-row-requires : tie.Need-named-row-requires
-named-row-requires c κs = search needs
-
-enum-known-key : tie.Need-enum-known-key
-enum-known-key c = search needs
-
-key-of-requires : tie.Need-key-of-requires
-key-of-requires c κs = search needs
-
-enum-told : tie.Need-enum-told
-enum-told c = search needs
-
-slice-aggregate-result : tie.Need-slice-aggregate-result
-slice-aggregate-result c = search needs
-
 returns : tie.Need-returns
 returns c =
     let e = sym (c .before .before .key .given .1) ∙ c .before .before .before .before .named-row .ensures in
-    (c .key-of .ensures .0 ∙ ap (keyBytes _) e, c .key-of .ensures .1 ∙ ap (movedOn _) (key-within _ _ _ e ∙ ap keyOffset e))
+    (c .key-of .ensures .0 ∙ ap (keyBytes _) e, c .key-of .ensures .1 ∙ ap (movedOn _) (keyed-facts _ _ _ e .key-start ∙ ap keyOffset e))
 
 returns-2 : tie.Need-returns-2
 returns-2 c =
@@ -36,10 +21,10 @@ pub key-of-message-spec : {M : Type 1} → statement M
 key-of-message-spec =
     tie.close
     (tie.spec
-    named-row-requires
-    enum-known-key
-    key-of-requires
-    enum-told
-    slice-aggregate-result
+    (search needs)
+    (search needs)
+    (search needs)
+    (search needs)
+    (search needs)
     returns
     returns-2)

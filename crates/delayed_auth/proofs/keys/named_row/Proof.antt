@@ -7,24 +7,6 @@ use borrow.Author.Needs.{needs}
 use Rattle.delayed_auth.proofs.keys.named_row.Statement.{statement}
 use Rattle.delayed_auth.proofs.keys.named_row.Tie as tie
 
-admitted-requires : tie.Need-admitted-requires
-admitted-requires c κs = search needs
-
-enum-known-form : tie.Need-enum-known-form
-enum-known-form c = search needs
-
-enum-known-form-2 : tie.Need-enum-known-form-2
-enum-known-form-2 c = search needs
-
-row-of-requires : tie.Need-row-of-requires
-row-of-requires c κs = search needs
-
-enum-known-found : tie.Need-enum-known-found
-enum-known-found c = search needs
-
-enum-told : tie.Need-enum-told
-enum-told c = search needs
-
 returns : tie.Need-returns
 returns c = key-refused _ _ _ (sym (c .before .form .given .1) ∙ c .before .before .before .admitted .ensures)
 
@@ -44,12 +26,12 @@ pub named-row-spec : {M : Type 1} → statement M
 named-row-spec =
     tie.close
     (tie.spec
-    admitted-requires
-    enum-known-form
-    enum-known-form-2
-    row-of-requires
-    enum-known-found
-    enum-told
+    (search needs)
+    (search needs)
+    (search needs)
+    (search needs)
+    (search needs)
+    (search needs)
     returns
     returns-2
     returns-3)

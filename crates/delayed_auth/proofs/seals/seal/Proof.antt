@@ -25,15 +25,6 @@ plan c = c .before .before .before .before .before .before .before
 
 -- ---- the needs
 
-planned-requires : tie.Need-planned-requires
-planned-requires c κs = search needs
-
-enum-known-plan : tie.Need-enum-known-plan
-enum-known-plan c = search needs
-
-enum-known-plan-2 : tie.Need-enum-known-plan-2
-enum-known-plan-2 c = search needs
-
 mul-counter : tie.Need-mul-counter
 mul-counter c = omega (arith, ready (c .before) .row .few)
 
@@ -44,9 +35,6 @@ add-counter : tie.Need-add-counter
 add-counter c =
     let p = c .before .before in
     omega (arith, ready p .unspent, c .slice-known3 .given (p .plan2 .given .0 .1 .0))
-
-key-of-requires : tie.Need-key-of-requires
-key-of-requires c κs = search needs
 
 write-seal-requires : tie.Need-write-seal-requires
 write-seal-requires c κs =
@@ -59,20 +47,8 @@ mul-sent c = omega (arith, ready (plan c) .row .few)
 slice-write-sent : tie.Need-slice-write-sent
 slice-write-sent c = ready (plan c) .row .in-sent
 
-same-length : tie.Need-same-length
-same-length c = search needs
-
-same-length-2 : tie.Need-same-length-2
-same-length-2 c = search needs
-
 returns : tie.Need-returns
 returns c = ends-refused _ _ _ _ (sym (c .before .plan .given .1) ∙ c .before .before .before .planned .ensures)
-
-same-length-3 : tie.Need-same-length-3
-same-length-3 c = search needs
-
-same-length-4 : tie.Need-same-length-4
-same-length-4 c = search needs
 
 returns-2 : tie.Need-returns-2
 returns-2 c =
@@ -84,19 +60,19 @@ pub seal-spec : {M : Type 1} → statement M
 seal-spec =
     tie.close
     (tie.spec
-    planned-requires
-    enum-known-plan
-    enum-known-plan-2
+    (search needs)
+    (search needs)
+    (search needs)
     mul-counter
     slice-read-counter
     add-counter
-    key-of-requires
+    (search needs)
     write-seal-requires
     mul-sent
     slice-write-sent
-    same-length
-    same-length-2
+    (search needs)
+    (search needs)
     returns
-    same-length-3
-    same-length-4
+    (search needs)
+    (search needs)
     returns-2)

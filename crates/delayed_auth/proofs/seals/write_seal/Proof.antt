@@ -30,39 +30,18 @@ add-from c = let f = form (c .before .before .before) in omega (arith, f .inside
 add-to : tie.Need-add-to
 add-to c = let f = form (c .before .before .before .before) in omega (arith, f .inside, f .most)
 
-sub-put-fields : tie.Need-sub-put-fields
-sub-put-fields c = search needs
-
-part-put-fields-start : tie.Need-part-put-fields-start
-part-put-fields-start c = search needs
-
 part-put-fields-end : tie.Need-part-put-fields-end
 part-put-fields-end c = omega (arith, form (c .before .before .before .before) .inside)
-
-put-fields-requires : tie.Need-put-fields-requires
-put-fields-requires c κs = search needs
 
 mac-of-requires : tie.Need-mac-of-requires
 mac-of-requires c κs =
     let f = c .before .before .before in
     (first f .form, start f .pre .1)
 
-sub-put-mac : tie.Need-sub-put-mac
-sub-put-mac c = search needs
-
-part-put-mac-start : tie.Need-part-put-mac-start
-part-put-mac-start c = search needs
-
 part-put-mac-end : tie.Need-part-put-mac-end
 part-put-mac-end c =
     let f = c .before .before .before .before in
     omega (arith, first f .size, form (start f) .inside)
-
-put-mac-requires : tie.Need-put-mac-requires
-put-mac-requires c κs = search needs
-
-same-length : tie.Need-same-length
-same-length c = search needs
 
 returns : tie.Need-returns
 returns c =
@@ -75,14 +54,14 @@ write-seal-spec =
     (tie.spec
     add-from
     add-to
-    sub-put-fields
-    part-put-fields-start
+    (search needs)
+    (search needs)
     part-put-fields-end
-    put-fields-requires
+    (search needs)
     mac-of-requires
-    sub-put-mac
-    part-put-mac-start
+    (search needs)
+    (search needs)
     part-put-mac-end
-    put-mac-requires
-    same-length
+    (search needs)
+    (search needs)
     returns)
