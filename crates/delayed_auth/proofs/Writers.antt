@@ -3,12 +3,12 @@ use mathlib.Core.Path.{_≡_, refl, sym, ap, subst, _∙_}
 use mathlib.Core.List.{List, _++_}
 use Prim.Native.Nat.{ℕ, _+_, _-_, _^_, _≤_, _<_}
 use native.Mathlib.Omega.{arith}
-use lib.ListN.{length, take, drop, length-append, length-drop}
+use lib.ListN.{length, take, drop, length-drop}
 use lib.Seq.{length-take-le}
 use Rattle.hmac_md5.specs.Hmac.{hmac}
 use Rattle.octets.specs.Bytes.{written, zeros}
-use Rattle.dhcp_message.specs.Layout.{counterAt, macSize, fieldsSize, sealSize, fullSize}
-use Rattle.dhcp_message.specs.Bytes.{be32}
+use Rattle.dhcp_message.specs.Layout.{counterAt, counterSize, secretIdSize, macSize, fieldsSize, sealSize, fullSize}
+use Rattle.octets.specs.Numbers.{bigAt}
 use Rattle.dhcp_message.specs.Said.{formOf}
 use Rattle.dhcp_message.specs.Image.{imageOf}
 use Rattle.dhcp_message.specs.Seal.{fields, fieldsPut, macPut, sealedWith, withFields}
@@ -49,24 +49,25 @@ module _ (m : List ℕ) (a : Auth) (c id : ℕ) (full : formOf m ≡ Full a) (hc
   whole = omega arith
 
   -- the MAC that still stands there, and the 28 bytes with it
-  mac : List ℕ
-  mac = take macSize (drop (a .at + counterAt + fieldsSize) m)
+  abbrev stale : List ℕ
+  stale = take macSize (drop (a .at + counterAt + fieldsSize) m)
+
+  stale-size : length stale ≡ macSize
+  stale-size =
+      length-take-le macSize (drop (a .at + counterAt + fieldsSize) m) (omega (arith, length-drop (a .at + counterAt + fieldsSize) m, inside))
 
   old : List ℕ
-  old = fields c id ++ mac
+  old = fields c id ++ stale
 
   length-old : length old ≡ sealSize
-  unfolding old mac
-  length-old =
-      let behind = drop (a .at + counterAt + fieldsSize) m in
-      let l : macSize ≤ length behind = omega (arith, length-drop (a .at + counterAt + fieldsSize) m, inside) in
-      length-append (fields c id) mac ∙ omega (arith, length-take-le macSize behind l)
+  unfolding old
+  length-old = seal-laws .seal-size c id stale stale-size
 
   first : List ℕ
   first = written (a .at + counterAt) (fields c id) m
 
   first-sealed : first ≡ sealedWith a old m
-  unfolding first old mac
+  unfolding first old
   first-sealed = seal-laws .fields-alone m (a .at + counterAt) c id inside
 
   first-size : length first ≡ length m
@@ -77,12 +78,12 @@ module _ (m : List ℕ) (a : Auth) (c id : ℕ) (full : formOf m ≡ Full a) (hc
   first-form =
       ap formOf first-sealed
       ∙ seal-laws .seals m a old full length-old .form
-      ∙ ap (λ (n : ℕ). Full (withFields a n (be32 old 8))) (seal-laws .counter-read c id mac hc)
-      ∙ ap (λ (n : ℕ). Full (withFields a c n)) (seal-laws .id-read c id mac hi)
+      ∙ ap (λ (n : ℕ). Full (withFields a n (bigAt old counterSize secretIdSize))) (seal-laws .counter-read c id stale hc)
+      ∙ ap (λ (n : ℕ). Full (withFields a c n)) (seal-laws .id-read c id stale hi)
 
   first-image : imageOf first ≡ imageOf (sealedWith a (fields c id ++ zeros macSize) m)
   unfolding old
-  first-image = ap imageOf first-sealed ∙ seal-laws .seals m a old full length-old .image (fields c id ++ zeros macSize) refl refl
+  first-image = ap imageOf first-sealed ∙ seal-laws .any-mac m a c id stale (zeros macSize) full stale-size refl
 
   then-sealed : (key new part : List ℕ) → length new ≡ macSize → new ≡ hmac key (imageOf first) → part ≡ macPut (partOf a first) new
       → partBack a first part ≡ sealedMessage key m a c id

@@ -1,9 +1,10 @@
 -- The bench examples: what the crates below computed of the message and of the card, on Book B.
-use Prim.Native.Nat.{ℕ}
+use Prim.Native.Nat.{ℕ, suc}
 use native.Mathlib.Omega.{arith}
 use mathlib.Core.Path.{_≡_, refl, sym, ap, _∙_}
 use mathlib.Core.Bool.{true}
 use mathlib.Core.List.{List}
+use Rattle.octets.specs.Numbers.{bigAt}
 use Rattle.refusal.specs.Number.{numberOf}
 use Rattle.refusal.specs.declared.Refusal.{Refusal}
 use Rattle.refusal.specs.declared.Refusal.the-variants.{WrongCookie}
@@ -11,7 +12,10 @@ use Rattle.octets.specs.Bytes.{zeros}
 use Rattle.dhcp_message.specs.Bench.{someMac}
 use Rattle.dhcp_message.specs.Options.{decodeAt}
 use Rattle.dhcp_message.specs.Message.{checkedOf, checkedTokens}
-use Rattle.dhcp_message.specs.Said.{Said, refused, says, saidBy, saidOf}
+use Rattle.dhcp_message.specs.Said.{Said, refused, says, saidBy, saidOf, formOf, formNumber, formSays}
+use Rattle.dhcp_message.specs.declared.Form.{Form}
+use Rattle.dhcp_message.specs.declared.Form.the-variants.{Refused as FormRefused, Full}
+use Rattle.dhcp_message.proofs.Seals.{form-says}
 use Rattle.dhcp_message.proofs.Examples.{bench-examples}
 use Rattle.key_book.specs.Book.{allBelow, sized, ascending, keySizes, sound, placeFrom, rowIn}
 use Rattle.key_book.proofs.Computed.{example-10}
@@ -34,13 +38,21 @@ on-b-refused : (m : List ℕ) (r : Refusal) → saidOf m ≡ refused r → numbe
 unfolding judgedSaid
 on-b-refused m r e = on-b m (refused r) e
 
+-- and gives the number of a form that is refused
+on-b-number : (m : List ℕ) (k : ℕ) → formNumber (formOf m) ≡ suc k → numberOnB m ≡ suc k
+on-b-number m k e = by (formOf m) (form-says .said m) e
+  where
+    by : (f : Form) → saidOf m ≡ formSays m f → formNumber f ≡ suc k → numberOnB m ≡ suc k
+    by (FormRefused r) s e = on-b-refused m r s ∙ e
+    by (Full a) s e = absurd (omega arith)
+
 -- the two messages of example 8
 says-8 : saidOf (wrongMac 11 8) ≡ says 11 8 someMac
-unfolding saidOf saidBy checkedOf checkedTokens decodeAt
+unfolding saidOf saidBy checkedOf checkedTokens decodeAt bigAt
 says-8 = refl
 
 says-7 : saidOf (wrongMac 10 7) ≡ says 10 7 someMac
-unfolding saidOf saidBy checkedOf checkedTokens decodeAt
+unfolding saidOf saidBy checkedOf checkedTokens decodeAt bigAt
 says-7 = refl
 
 unknown-8 : numberOnB (wrongMac 11 8) ≡ 10
@@ -65,14 +77,14 @@ bench-table =
       example-1-size = example-1 .size;
       example-2 = example-2 .no-rows-read;
       example-2-more = λ x. ap readNumber (example-2 .one-byte-more-read x);
-      example-3-short = on-b-refused _ _ (bench-examples .example-3-short);
-      example-3-long = on-b-refused _ _ (bench-examples .example-3-long);
+      example-3-short = on-b-number _ _ (bench-examples .example-3-short);
+      example-3-long = on-b-number _ _ (bench-examples .example-3-long);
       example-3-passes = λ e. let z : _≡_ {A = ℕ} 3 2 = sym wrong-cookie ∙ e in omega arith;
-      example-4 = on-b-refused _ _ (bench-examples .example-4);
-      example-5 = on-b-refused _ _ (bench-examples .example-5);
-      example-6 = on-b-refused _ _ (bench-examples .example-6);
-      example-7-request = on-b-refused _ _ (bench-examples .example-7-request);
-      example-7-protocol = on-b-refused _ _ (bench-examples .example-7-protocol);
+      example-4 = on-b-number _ _ (bench-examples .example-4);
+      example-5 = on-b-number _ _ (bench-examples .example-5);
+      example-6 = on-b-number _ _ (bench-examples .example-6);
+      example-7-request = on-b-number _ _ (bench-examples .example-7-request);
+      example-7-protocol = on-b-number _ _ (bench-examples .example-7-protocol);
       example-8-id = unknown-8;
       example-8-counter = replay-7;
       example-10 = example-10 .largest-key;

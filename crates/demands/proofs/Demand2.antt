@@ -26,14 +26,10 @@ use Rattle.demands.proofs.Stages.{hmac-size, accepted-accepts, accepts-
 -- ---- the image of a sealed message
 
 module _ (m : List ℕ) (a : Auth) (form : formOf m ≡ Full a) (c id : ℕ) where
-  -- whatever stands in the MAC's place
-  image-any : (x y : List ℕ) → length x ≡ macSize → length y ≡ macSize → imageOf (sealedWith a (fields c id ++ x) m) ≡ imageOf (sealedWith a (fields c id ++ y) m)
-  image-any x y h g = seal-laws .seals m a (fields c id ++ x) form (omega arith) .image (fields c id ++ y) (omega arith) refl
-
   -- it says the counter, the id and the MAC that were written
   says-written : (x : List ℕ) → length x ≡ macSize → c < 2 ^ 64 → id < 2 ^ 32 → saidOf (sealedWith a (fields c id ++ x) m) ≡ says c id x
   says-written x h l g =
-      seal-laws .seals m a (fields c id ++ x) form (omega arith) .said
+      seal-laws .seals m a (fields c id ++ x) form (seal-laws .seal-size c id x h) .said
       ∙ rw (seal-laws .counter-read c id x l, seal-laws .id-read c id x g, seal-laws .mac-read c id x)
 
 -- ---- what is sealed
@@ -52,7 +48,7 @@ module _ (b : Book) (lent : Lent b) (id : ℕ) (m : List ℕ) (k c : ℕ) (n : L
         left = let u = w .unspent in omega (arith, lent .sent-fits k);
         next = w .next;
         bytes = w .message;
-        right = ap (hmac (keyOf b k)) (image-any m a (w .form) c id (zeros macSize) mac refl (hmac-size _ _) ∙ ap imageOf (sym (w .message)));
+        right = ap (hmac (keyOf b k)) (seal-laws .any-mac m a c id (zeros macSize) mac (w .form) refl (hmac-size _ _) ∙ ap imageOf (sym (w .message)));
       }
 
   seals-by : Seals b id m k c n → SealedBy b id m k c n
@@ -68,7 +64,7 @@ module _ (b : Book) (lent : Lent b) (id : ℕ) (m : List ℕ) (k c : ℕ) (n : L
         next = w .next;
         message = w .bytes
             ∙ ap (λ (x : List ℕ). sealedWith a (fields c id ++ x) m)
-            (w .right ∙ ap (hmac (keyOf b k)) (ap imageOf (w .bytes) ∙ image-any m a (w .form) c id (w .mac) (zeros macSize) size refl));
+            (w .right ∙ ap (hmac (keyOf b k)) (ap imageOf (w .bytes) ∙ seal-laws .any-mac m a c id (w .mac) (zeros macSize) (w .form) size refl));
       }
 
 -- the key of a named row is the part of its slot

@@ -112,7 +112,8 @@ module _ (b : Book) (id : ℕ) (m n : List ℕ) (x y : Auth) (same : (new : List
   unfolding sealedMessage
   message-depends key c =
       let image = imageOf (sealedWith y (fields c id ++ zeros macSize) m) in
-      rw (same (fields c id ++ zeros macSize) refl) (same (fields c id ++ hmac key image) (omega (arith, hmac-size key image)))
+      rw (same (fields c id ++ zeros macSize) (seal-laws .seal-size c id (zeros macSize) refl))
+      (same (fields c id ++ hmac key image) (seal-laws .seal-size c id (hmac key image) (hmac-size key image)))
 
   row-fields : (o : Option ℕ) → sealedRow b n x id o ≡ sealedRow b m y id o
   unfolding sealedRow

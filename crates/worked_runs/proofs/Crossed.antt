@@ -8,6 +8,7 @@ use lib.Dec.{eqb}
 use Prim.Native.Nat.{ℕ, zero, suc, _+_, _<_, _≤_}
 use native.Mathlib.Omega.{arith}
 use lib.ListN.{length, getD, drop, getElem?}
+use Rattle.octets.specs.Numbers.{be, bigAt}
 use Rattle.refusal.specs.declared.Refusal.the-variants.{MessageSize, NoAuthentication, UnknownSecret, WrongMac}
 use Rattle.md5.specs.Word.{rotl, auxiliary, wordNo, additive, rotations}
 use Rattle.md5.specs.Block.{stepWith, stepAt, steps, round, compress, wordAt, loadTo, load, blocks}
@@ -60,13 +61,13 @@ counters received-A received-B sent-A sent-B = record {
 
 step-0 : sealOf book idA toSeal ≡ sealed 0 4 sealedA
 unfolding hmac masked md5 padded padding blocks compress round steps stepAt stepWith rotl auxiliary wordNo additive rotations load loadTo wordAt output
-    saidOf checkedOf checkedTokens decodeAt saidBy formOf imageOf written sound sized ascending keySizes allBelow placeFrom rowIn keyFits keyIn
+    saidOf checkedOf checkedTokens decodeAt saidBy bigAt be formOf imageOf written sound sized ascending keySizes allBelow placeFrom rowIn keyFits keyIn
     counters sealedMessage sealedRow sealedForm sealedSound sealOf
 step-0 = refl
 
 step-1 : sealOf (counters 10 10 4 sentB) idB toSeal ≡ sealed 1 1230066625199609856 sealedB
 unfolding hmac masked md5 padded padding blocks compress round steps stepAt stepWith rotl auxiliary wordNo additive rotations load loadTo wordAt output
-    saidOf checkedOf checkedTokens decodeAt saidBy formOf imageOf written sound sized ascending keySizes allBelow placeFrom rowIn keyFits keyIn
+    saidOf checkedOf checkedTokens decodeAt saidBy bigAt be formOf imageOf written sound sized ascending keySizes allBelow placeFrom rowIn keyFits keyIn
     counters sealedMessage sealedRow sealedForm sealedSound sealOf
 step-1 = refl
 
@@ -75,29 +76,29 @@ settled : ℕ → ℕ → Book
 settled received-A received-B = counters received-A received-B 4 1230066625199609856
 
 step-2 : sealOf (settled 10 10) 9 toSeal ≡ unsealed UnknownSecret
-unfolding saidOf checkedOf checkedTokens decodeAt saidBy formOf imageOf written sound sized ascending keySizes allBelow placeFrom rowIn keyFits keyIn
+unfolding saidOf checkedOf checkedTokens decodeAt saidBy bigAt be formOf imageOf written sound sized ascending keySizes allBelow placeFrom rowIn keyFits keyIn
     counters settled sealedMessage sealedRow sealedForm sealedSound sealOf
 step-2 = refl
 
 step-3 : checkOf (settled 10 10) short ≡ Refused MessageSize
-unfolding saidOf checkedOf checkedTokens decodeAt saidBy formOf imageOf written sound sized ascending keySizes allBelow placeFrom rowIn keyFits keyIn
+unfolding saidOf checkedOf checkedTokens decodeAt saidBy bigAt formOf imageOf written sound sized ascending keySizes allBelow placeFrom rowIn keyFits keyIn
     counters settled sameBytes judgedRow judgedSaid judgedSound checkOf
 step-3 = refl
 
 step-4 : checkOf (settled 10 10) unnamed ≡ Refused NoAuthentication
-unfolding saidOf checkedOf checkedTokens decodeAt saidBy formOf imageOf written sound sized ascending keySizes allBelow placeFrom rowIn keyFits keyIn
+unfolding saidOf checkedOf checkedTokens decodeAt saidBy bigAt formOf imageOf written sound sized ascending keySizes allBelow placeFrom rowIn keyFits keyIn
     counters settled sameBytes judgedRow judgedSaid judgedSound checkOf
 step-4 = refl
 
 step-5 : checkOf (settled 10 10) (plain (authA ++ relayInfo)) ≡ Accepted 0 counterA
 unfolding hmac masked md5 padded padding blocks compress round steps stepAt stepWith rotl auxiliary wordNo additive rotations load loadTo wordAt output
-    saidOf checkedOf checkedTokens decodeAt saidBy formOf imageOf written sound sized ascending keySizes allBelow placeFrom rowIn keyFits keyIn
+    saidOf checkedOf checkedTokens decodeAt saidBy bigAt formOf imageOf written sound sized ascending keySizes allBelow placeFrom rowIn keyFits keyIn
     counters settled sameBytes judgedRow judgedSaid judgedSound checkOf
 step-5 = refl
 
 step-6 : checkOf (settled counterA 10) (plain (authB ++ relayInfo)) ≡ Accepted 1 20
 unfolding hmac masked md5 padded padding blocks compress round steps stepAt stepWith rotl auxiliary wordNo additive rotations load loadTo wordAt output
-    saidOf checkedOf checkedTokens decodeAt saidBy formOf imageOf written sound sized ascending keySizes allBelow placeFrom rowIn keyFits keyIn
+    saidOf checkedOf checkedTokens decodeAt saidBy bigAt formOf imageOf written sound sized ascending keySizes allBelow placeFrom rowIn keyFits keyIn
     counters settled sameBytes judgedRow judgedSaid judgedSound checkOf
 step-6 = refl
 
@@ -114,19 +115,19 @@ first-ends = rw (step-0, step-1, step-2, step-3, step-4, step-5, step-6)
 -- ---- the names of the messages
 
 name-short : named short ≡ none
-unfolding named saidOf checkedOf checkedTokens decodeAt saidBy
+unfolding named saidOf checkedOf checkedTokens decodeAt saidBy bigAt
 name-short = refl
 
 name-unnamed : named unnamed ≡ none
-unfolding named saidOf checkedOf checkedTokens decodeAt saidBy
+unfolding named saidOf checkedOf checkedTokens decodeAt saidBy bigAt
 name-unnamed = refl
 
 pub name-A : named (plain (authA ++ relayInfo)) ≡ some idA
-unfolding named saidOf checkedOf checkedTokens decodeAt saidBy
+unfolding named saidOf checkedOf checkedTokens decodeAt saidBy bigAt
 name-A = refl
 
 name-B : named (plain (authB ++ relayInfo)) ≡ some idB
-unfolding named saidOf checkedOf checkedTokens decodeAt saidBy
+unfolding named saidOf checkedOf checkedTokens decodeAt saidBy bigAt
 name-B = refl
 
 accepted-A : acceptedIn idA book first ≡ counterA ∷ []
@@ -286,7 +287,7 @@ back (suc (suc (suc (suc (suc (suc (suc i))))))) l = absurd (omega arith)
 
 wrong-mac : checkOf book forged ≡ Refused WrongMac
 unfolding hmac masked md5 padded padding blocks compress round steps stepAt stepWith rotl auxiliary wordNo additive rotations load loadTo wordAt output
-    saidOf checkedOf checkedTokens decodeAt saidBy formOf imageOf written sound sized ascending keySizes allBelow placeFrom rowIn keyFits keyIn
+    saidOf checkedOf checkedTokens decodeAt saidBy bigAt formOf imageOf written sound sized ascending keySizes allBelow placeFrom rowIn keyFits keyIn
     counters sameBytes judgedRow judgedSaid judgedSound checkOf
 wrong-mac = refl
 
@@ -294,7 +295,7 @@ forged-refused : (k c : ℕ) → Accepts book forged k c → ⊥
 forged-refused k c a = let e = demand-2 .accepted book is-sound forged k c .1 a in never (cc wrong-mac)
 
 stale-says : saidOf stale ≡ says 10 idA someMac
-unfolding saidOf checkedOf checkedTokens decodeAt saidBy
+unfolding saidOf checkedOf checkedTokens decodeAt saidBy bigAt
 stale-says = refl
 
 stale-on : (b : Book) → SameIds book b → 10 ≤ getD (b .received) 0 0 → (k c : ℕ) → Accepts b stale k c → ⊥

@@ -1,5 +1,6 @@
 -- specs/MoreNumbers.antt, computed.
 use mathlib.Core.Path.{refl}
+use Rattle.octets.specs.Numbers.{bigAt}
 use Rattle.md5.specs.Word.{rotl, auxiliary, wordNo, additive, rotations}
 use Rattle.md5.specs.Block.{stepWith, stepAt, steps, round, compress, wordAt, loadTo, load, blocks}
 use Rattle.md5.specs.Message.{md5, padded, padding, output}
@@ -21,7 +22,7 @@ use Rattle.worked_runs.specs.MoreNumbers.{MoreNumbers}
 
 pub more-numbers : MoreNumbers
 unfolding rotl auxiliary wordNo additive rotations stepWith stepAt steps round compress wordAt loadTo load blocks md5 padded padding output masked hmac
-    written decodeAt checkedTokens checkedOf saidBy saidOf formOf imageOf allBelow sized ascending keySizes sound placeFrom rowIn keyFits keyIn
+    written decodeAt checkedTokens checkedOf saidBy bigAt saidOf formOf imageOf allBelow sized ascending keySizes sound placeFrom rowIn keyFits keyIn
     sameBytes judgedRow judgedSaid judgedSound checkOf sealedRow sealedForm sealedSound sealOf le value numberAt recordOf rowRecord close rowRecords cardOf
     frontOf frontFrom rowsInFront readCard readOf rowsFrom rowsOf writeOf
 more-numbers = record { number-1 = refl; number-12 = refl; number-13 = refl; number-16 = refl; number-17 = refl }

@@ -6,6 +6,7 @@ use mathlib.Core.List.{List, [], _∷_, _++_}
 use Prim.Native.Nat.{ℕ, zero, suc, _+_, _<_, _≤_}
 use native.Mathlib.Omega.{arith}
 use lib.ListN.{length, take, drop, getElem?}
+use Rattle.octets.specs.Numbers.{be, bigAt}
 use Rattle.refusal.specs.declared.Refusal.the-variants.{Replay, WrongMac}
 use Rattle.md5.specs.Word.{rotl, auxiliary, wordNo, additive, rotations}
 use Rattle.md5.specs.Block.{stepWith, stepAt, steps, round, compress, wordAt, loadTo, load, blocks}
@@ -41,19 +42,19 @@ counters : List ℕ → List ℕ → Book
 counters received sent = record { ids = book .ids; lengths = book .lengths; store = book .store; received = received; sent = sent; rows = book .rows }
 
 step-0 : checkOf book (sentMessage auth7) ≡ Accepted 0 11
-unfolding hmac masked md5 padded padding blocks compress round steps stepAt stepWith rotl auxiliary wordNo additive rotations load loadTo wordAt output saidOf checkedOf checkedTokens decodeAt saidBy formOf imageOf written sound sized ascending keySizes allBelow placeFrom rowIn keyFits keyIn sameBytes judgedRow judgedSaid judgedSound checkOf
+unfolding hmac masked md5 padded padding blocks compress round steps stepAt stepWith rotl auxiliary wordNo additive rotations load loadTo wordAt output saidOf checkedOf checkedTokens decodeAt saidBy bigAt formOf imageOf written sound sized ascending keySizes allBelow placeFrom rowIn keyFits keyIn sameBytes judgedRow judgedSaid judgedSound checkOf
 step-0 = refl
 
 step-1 : checkOf (counters (11 ∷ 10 ∷ []) (3 ∷ 3 ∷ [])) (sentMessage auth8) ≡ Accepted 1 20
-unfolding counters hmac masked md5 padded padding blocks compress round steps stepAt stepWith rotl auxiliary wordNo additive rotations load loadTo wordAt output saidOf checkedOf checkedTokens decodeAt saidBy formOf imageOf written sound sized ascending keySizes allBelow placeFrom rowIn keyFits keyIn sameBytes judgedRow judgedSaid judgedSound checkOf
+unfolding counters hmac masked md5 padded padding blocks compress round steps stepAt stepWith rotl auxiliary wordNo additive rotations load loadTo wordAt output saidOf checkedOf checkedTokens decodeAt saidBy bigAt formOf imageOf written sound sized ascending keySizes allBelow placeFrom rowIn keyFits keyIn sameBytes judgedRow judgedSaid judgedSound checkOf
 step-1 = refl
 
 step-2 : sealOf (counters (11 ∷ 20 ∷ []) (3 ∷ 3 ∷ [])) 7 toSeal ≡ sealed 0 4 sealedBytes
-unfolding counters hmac masked md5 padded padding blocks compress round steps stepAt stepWith rotl auxiliary wordNo additive rotations load loadTo wordAt output saidOf checkedOf checkedTokens decodeAt saidBy formOf imageOf written sound sized ascending keySizes allBelow placeFrom rowIn keyFits keyIn sealedMessage sealedRow sealedForm sealedSound sealOf
+unfolding counters hmac masked md5 padded padding blocks compress round steps stepAt stepWith rotl auxiliary wordNo additive rotations load loadTo wordAt output saidOf checkedOf checkedTokens decodeAt saidBy bigAt be formOf imageOf written sound sized ascending keySizes allBelow placeFrom rowIn keyFits keyIn sealedMessage sealedRow sealedForm sealedSound sealOf
 step-2 = refl
 
 step-3 : checkOf (counters (11 ∷ 20 ∷ []) (4 ∷ 3 ∷ [])) (sentMessage auth7) ≡ Refused Replay
-unfolding counters saidOf checkedOf checkedTokens decodeAt saidBy formOf imageOf written sound sized ascending keySizes allBelow placeFrom rowIn keyFits keyIn sameBytes judgedRow judgedSaid judgedSound checkOf
+unfolding counters saidOf checkedOf checkedTokens decodeAt saidBy bigAt formOf imageOf written sound sized ascending keySizes allBelow placeFrom rowIn keyFits keyIn sameBytes judgedRow judgedSaid judgedSound checkOf
 step-3 = refl
 
 first-answers : answers book first ≡ checked (Accepted 0 11) ∷ checked (Accepted 1 20) ∷ wrote (Sealed 4) sealedBytes ∷ checked (Refused Replay) ∷ []
@@ -157,11 +158,11 @@ one-order s t (checks e f) = ap under (e ∙ sym f)
 one-order s t seals = refl
 
 order-7 : orderOf (check (sentMessage auth7)) ≡ 7
-unfolding orderOf under named saidOf checkedOf checkedTokens decodeAt saidBy
+unfolding orderOf under named saidOf checkedOf checkedTokens decodeAt saidBy bigAt
 order-7 = refl
 
 order-8 : orderOf (check (sentMessage auth8)) ≡ 8
-unfolding orderOf under named saidOf checkedOf checkedTokens decodeAt saidBy
+unfolding orderOf under named saidOf checkedOf checkedTokens decodeAt saidBy bigAt
 order-8 = refl
 
 order-seal : orderOf (seal 7 toSeal) ≡ 107
@@ -191,11 +192,11 @@ after-seal : Book
 after-seal = bookAfter book (seal 7 toSeal)
 
 after-seal-sound : Sound after-seal
-unfolding after-seal sound sized ascending keySizes allBelow placeFrom rowIn keyFits keyIn sealedMessage sealedRow sealedForm sealedSound sealOf formOf checkedOf checkedTokens decodeAt saidBy
+unfolding after-seal sound sized ascending keySizes allBelow placeFrom rowIn keyFits keyIn sealedMessage sealedRow sealedForm sealedSound sealOf formOf checkedOf checkedTokens decodeAt saidBy bigAt be
 after-seal-sound = sound-says after-seal .0 refl
 
 wrong-mac : checkOf after-seal forged ≡ Refused WrongMac
-unfolding after-seal hmac masked md5 padded padding blocks compress round steps stepAt stepWith rotl auxiliary wordNo additive rotations load loadTo wordAt output saidOf checkedOf checkedTokens decodeAt saidBy formOf imageOf written sound sized ascending keySizes allBelow placeFrom rowIn keyFits keyIn sameBytes judgedRow judgedSaid judgedSound checkOf sealedMessage sealedRow sealedForm sealedSound sealOf
+unfolding after-seal hmac masked md5 padded padding blocks compress round steps stepAt stepWith rotl auxiliary wordNo additive rotations load loadTo wordAt output saidOf checkedOf checkedTokens decodeAt saidBy bigAt be formOf imageOf written sound sized ascending keySizes allBelow placeFrom rowIn keyFits keyIn sameBytes judgedRow judgedSaid judgedSound checkOf sealedMessage sealedRow sealedForm sealedSound sealOf
 wrong-mac = refl
 
 not-accepted : (k c : ℕ) → Accepts after-seal forged k c → ⊥
