@@ -1,165 +1,157 @@
--- The ends of `check` and of the key entries: each is one leaf of its definition. The only file that unfolds these definitions.
+-- The ends of `check`: each is one leaf of `checkOf`; what an acceptance says of every stage, and back; and what a check reads.
+-- The only file that unfolds `checkOf` and its stages.
 use mathlib.Core.Path.{_≡_, refl, sym, ap, _∙_}
 use mathlib.Core.Bool.{Bool, true, false}
 use mathlib.Core.List.{List}
 use mathlib.Core.Option.{Option, none, some}
-use Prim.Native.Nat.{ℕ, _+_, _*_, _≤_, _<_}
-use native.Mathlib.Nat.{zero-add}
-use native.Mathlib.Omega.{arith}
-use borrow.Author.Tests.{lt-ltb, le-ltb}
+use Prim.Native.Nat.{ℕ, _≤_, _<_}
+use borrow.Author.Tests.{lt-ltb, le-ltb, ltb-true}
 use lib.Dec.{ltb}
-use lib.ListN.{length, getD, take, drop}
+use lib.ListN.{getD}
 use Rattle.refusal.specs.declared.Refusal.{Refusal}
 use Rattle.refusal.specs.declared.Refusal.the-variants.{UnsoundBook, UnknownSecret, Replay, WrongMac}
 use Rattle.hmac_md5.specs.Hmac.{hmac}
-use Rattle.dhcp_message.specs.Said.{Said, refused, says, saidOf, formOf, formSays}
+use Rattle.dhcp_message.specs.Said.{Said, refused, says, saidOf, formOf}
 use Rattle.dhcp_message.specs.Image.{imageOf}
 use Rattle.dhcp_message.specs.declared.Auth.{Auth}
 use Rattle.dhcp_message.specs.declared.Form.the-variants.{Refused as FormRefused, Full}
-use Rattle.dhcp_message.proofs.Seals.{form-says, full-form}
-use Rattle.key_book.specs.Book.{Book, sound, rowOf, keyOf, keyStart, movedOn}
-use Rattle.key_book.proofs.Says.{sound-says, row-says, rows-within, key-says}
+use Rattle.key_book.specs.Book.{Book, sound, rowOf, keyOf}
+use Rattle.delayed_auth.specs.declared.Verdict.{Verdict}
 use Rattle.delayed_auth.specs.declared.Verdict.the-variants.{Accepted, Refused}
-use Rattle.delayed_auth.specs.declared.Keyed.the-variants.{Row, NoKey}
-use Rattle.delayed_auth.specs.Check.{sameBytes, judgedBy, judgedRow, judgedSaid, judgedSound, checkOf}
-use Rattle.delayed_auth.specs.Key.{keyedRow, keyedSaid, keyedSound, keyedOf}
+use Rattle.delayed_auth.specs.Admit.{admittedSaid, admittedForm}
+use Rattle.delayed_auth.specs.Check.{sameBytes, judgedBy, judgedRow, judgedSaid, checkOf, receivedAfter}
+use Rattle.delayed_auth.proofs.Admits.{never, admit-unsound, admit-sound, said-sound, admit-says, admitted-says, admit-alike}
+use Rattle.delayed_auth.proofs.Admits.{RowFacts, row-facts}
+use Rattle.delayed_auth.proofs.Macs.{macIn, same-equal, equal-same}
 
--- ---- a message whose form is refused says that refusal
-
-said-refused : (m : List ℕ) (r : Refusal) → formOf m ≡ FormRefused r → saidOf m ≡ refused r
-said-refused m r e = form-says .said m ∙ ap (formSays m) e
-
--- ---- a row that was found on a sound book
-
-pub record RowFacts (b : Book) (k : ℕ) : Type 0 where
-  pub few : k < 1024
-  pub in-received : k < length (b .received)
-  pub in-sent : k < length (b .sent)
-  pub key-short : length (keyOf b k) ≤ 64
-  pub key-start : keyStart (b .store) (b .lengths) k ≡ 64 * k
-
-pub row-facts : (b : Book) (id k : ℕ) → sound b ≡ true → rowOf b id ≡ some k → RowFacts b k
-row-facts b id k s e =
-    let w = sound-says b .0 s in
-    let u = row-says .row b id k .0 e .used in
-    let i = rows-within b w k u in
-    let q = key-says b w k u in
-    record { few = omega (arith, i .in-ids, w .sizes .room); in-received = i .in-received; in-sent = i .in-sent; key-short = q .to-slot; key-start = q .start }
-
--- ---- check
+-- ---- the leaves
 
 module _ (b : Book) (m : List ℕ) where
+  check-said : (x : Said) → x ≡ admittedSaid b m → judgedSaid b m x ≡ checkOf b m
+  unfolding checkOf
+  check-said x e = ap (judgedSaid b m) e
+
+  pub check-refused : (r : Refusal) → FormRefused r ≡ admittedForm b m → Refused r ≡ checkOf b m
+  unfolding judgedSaid
+  check-refused r e = check-said (refused r) (admit-says b m (FormRefused r) e)
+
   pub check-unsound : sound b ≡ false → Refused UnsoundBook ≡ checkOf b m
-  unfolding checkOf judgedSound
-  check-unsound s = rw s
+  check-unsound s = check-refused UnsoundBook (admit-unsound b m s)
 
   module _ (s : sound b ≡ true) where
-    check-said : judgedSaid b m (saidOf m) ≡ checkOf b m
-    unfolding checkOf judgedSound
-    check-said = rw s
-
     pub check-form : (r : Refusal) → formOf m ≡ FormRefused r → Refused r ≡ checkOf b m
-    unfolding judgedSaid
-    check-form r e = ap (judgedSaid b m) (sym (said-refused m r e)) ∙ check-said
+    check-form r e = check-refused r (sym e ∙ admit-sound b m s)
 
+    -- by what the message says
+    module _ (c id : ℕ) (mac : List ℕ) (said : saidOf m ≡ says c id mac) where
+      check-row : (o : Option ℕ) → rowOf b id ≡ o → judgedRow b m c mac o ≡ checkOf b m
+      unfolding judgedSaid
+      check-row o e = ap (judgedRow b m c mac) (sym e) ∙ check-said (says c id mac) (sym said ∙ said-sound b m s)
+
+      pub said-unknown : rowOf b id ≡ none → Refused UnknownSecret ≡ checkOf b m
+      unfolding judgedRow
+      said-unknown e = check-row none e
+
+      module _ (k : ℕ) (row : rowOf b id ≡ some k) where
+        pub said-replay : c ≤ getD (b .received) k 0 → Refused Replay ≡ checkOf b m
+        unfolding judgedRow
+        said-replay h = rw (le-ltb (getD (b .received) k 0) c h) at (check-row (some k) row)
+
+        said-above : getD (b .received) k 0 < c → (t : Bool) → sameBytes mac (hmac (keyOf b k) (imageOf m)) ≡ t → judgedBy k c true t ≡ checkOf b m
+        unfolding judgedRow
+        said-above h t e = rw (lt-ltb (getD (b .received) k 0) c h, e) at (check-row (some k) row)
+
+    -- by the form
     module _ (a : Auth) (full : formOf m ≡ Full a) where
-      mac : List ℕ
-      mac = take 16 (drop (a .at + 17) m)
-
-      check-row : (o : Option ℕ) → rowOf b (a .id) ≡ o → judgedRow b m (a .counter) mac o ≡ checkOf b m
-      unfolding judgedSaid mac
-      check-row o e =
-          ap (judgedRow b m (a .counter) mac) (sym e)
-          ∙ ap (judgedSaid b m) (sym (full-form m a full .said))
-          ∙ check-said
+      said : saidOf m ≡ says (a .counter) (a .id) (macIn m a)
+      said = said-sound b m s ∙ sym (admit-says b m (Full a) (sym full ∙ admit-sound b m s))
 
       pub check-unknown : rowOf b (a .id) ≡ none → Refused UnknownSecret ≡ checkOf b m
-      unfolding judgedRow
-      check-unknown e = check-row none e
+      check-unknown = said-unknown _ _ _ said
 
       module _ (k : ℕ) (row : rowOf b (a .id) ≡ some k) where
         pub check-replay : a .counter ≤ getD (b .received) k 0 → Refused Replay ≡ checkOf b m
-        unfolding judgedRow
-        check-replay h = rw (le-ltb (getD (b .received) k 0) (a .counter) h) at (check-row (some k) row)
+        check-replay = said-replay _ _ _ said k row
 
         module _ (h : getD (b .received) k 0 < a .counter) where
-          pub check-wrong : sameBytes (take 16 (drop (a .at + 17) m)) (hmac (keyOf b k) (imageOf m)) ≡ false → Refused WrongMac ≡ checkOf b m
-          unfolding judgedRow mac
-          check-wrong e = rw (lt-ltb (getD (b .received) k 0) (a .counter) h, e) at (check-row (some k) row)
+          pub check-wrong : sameBytes (macIn m a) (hmac (keyOf b k) (imageOf m)) ≡ false → Refused WrongMac ≡ checkOf b m
+          check-wrong = said-above _ _ _ said k row h false
 
-          pub check-accepted : sameBytes (take 16 (drop (a .at + 17) m)) (hmac (keyOf b k) (imageOf m)) ≡ true → Accepted k (a .counter) ≡ checkOf b m
-          unfolding judgedRow mac
-          check-accepted e = rw (lt-ltb (getD (b .received) k 0) (a .counter) h, e) at (check-row (some k) row)
+          pub check-accepted : sameBytes (macIn m a) (hmac (keyOf b k) (imageOf m)) ≡ true → Accepted k (a .counter) ≡ checkOf b m
+          check-accepted = said-above _ _ _ said k row h true
 
--- ---- the row of an accepted message
+  -- what the entry returns, and what it leaves in the received counters
+  pub check-ends : (v : Verdict) → v ≡ checkOf b m → (v ≡ checkOf b m) × (receivedAfter v (b .received) ≡ receivedAfter (checkOf b m) (b .received))
+  check-ends v e = (e, ap (λ (x : Verdict). receivedAfter x (b .received)) e)
 
-accepted-by : (j c : ℕ) (above right : Bool) (k d : ℕ) → Accepted k d ≡ judgedBy j c above right → k ≡ j
-accepted-by j c false right k d e = absurd (let z : _≡_ {A = ℕ} 0 1 = cc in omega arith)
-accepted-by j c true false k d e = absurd (let z : _≡_ {A = ℕ} 0 1 = cc in omega arith)
-accepted-by j c true true k d e = cc
+-- ---- an acceptance
 
-accepted-row : (b : Book) (m : List ℕ) (c id : ℕ) (mac : List ℕ) (o : Option ℕ) (k d : ℕ) → rowOf b id ≡ o → Accepted k d ≡ judgedRow b m c mac o → rowOf b id ≡ some k
-unfolding judgedRow
-accepted-row b m c id mac none k d r e = absurd (let z : _≡_ {A = ℕ} 0 1 = cc in omega arith)
-accepted-row b m c id mac (some j) k d r e = r ∙ ap some (sym (accepted-by j c (ltb (getD (b .received) j 0) c) (sameBytes mac (hmac (keyOf b j) (imageOf m))) k d e))
+pub record AcceptedBy (b : Book) (m : List ℕ) (k c : ℕ) : Type 0 where
+  pub is-sound : sound b ≡ true
+  pub id : ℕ
+  pub mac : List ℕ
+  pub said : saidOf m ≡ says c id mac
+  pub secret : rowOf b id ≡ some k
+  pub above : getD (b .received) k 0 < c
+  pub right : mac ≡ hmac (keyOf b k) (imageOf m)
 
-accepted-said : (b : Book) (m : List ℕ) (s : Said) (k d : ℕ) → Accepted k d ≡ judgedSaid b m s → (id : ℕ) × (rowOf b id ≡ some k)
-unfolding judgedSaid
-accepted-said b m (refused r) k d e = absurd (let z : _≡_ {A = ℕ} 0 1 = cc in omega arith)
-accepted-said b m (says c id mac) k d e = (id, accepted-row b m c id mac (rowOf b id) k d refl e)
+module _ (b : Book) (m : List ℕ) (k c : ℕ) where
+  pub by-accepted : AcceptedBy b m k c → Accepted k c ≡ checkOf b m
+  by-accepted w = said-above b m (w .is-sound) c (w .id) (w .mac) (w .said) k (w .secret) (w .above) true (equal-same _ _ (w .right))
 
-accepted-sound : (b : Book) (m : List ℕ) (s : Bool) (k d : ℕ) → sound b ≡ s → Accepted k d ≡ judgedSound b m s → RowFacts b k
-unfolding judgedSound
-accepted-sound b m false k d f e = absurd (let z : _≡_ {A = ℕ} 0 1 = cc in omega arith)
-accepted-sound b m true k d f e =
-    let r = accepted-said b m (saidOf m) k d e in
-    row-facts b (r .0) k f (r .1)
+  accepted-row : (d id : ℕ) (mac : List ℕ) → says d id mac ≡ admittedSaid b m → (o : Option ℕ) → rowOf b id ≡ o
+      → Accepted k c ≡ judgedRow b m d mac o → AcceptedBy b m k c
+  unfolding judgedRow
+  accepted-row d id mac f none e h = never cc
+  accepted-row d id mac f (some r) e h = on (ltb (getD (b .received) r 0) d) refl (sameBytes mac (hmac (keyOf b r) (imageOf m))) refl h
+    where
+      on : (above : Bool) → ltb (getD (b .received) r 0) d ≡ above → (right : Bool) → sameBytes mac (hmac (keyOf b r) (imageOf m)) ≡ right
+          → Accepted k c ≡ judgedBy r d above right → AcceptedBy b m k c
+      on true p true q h =
+          let row : r ≡ k = cc in
+          let counter : d ≡ c = cc in
+          let w = admitted-says b m d id mac f in
+          record {
+            is-sound = w .0;
+            id = id;
+            mac = mac;
+            said = w .1 ∙ ap (λ (x : ℕ). says x id mac) counter;
+            secret = e ∙ ap some row;
+            above = rw (← row, ← counter) (ltb-true _ _ p);
+            right = rw (← row) (same-equal _ _ q);
+          }
+      on true p false q h = never cc
+      on false p right q h = never cc
 
-pub accepted-within : (b : Book) (m : List ℕ) (k d : ℕ) → Accepted k d ≡ checkOf b m → RowFacts b k
-unfolding checkOf
-accepted-within b m k d e = accepted-sound b m (sound b) k d refl e
+  accepted-said : (x : Said) → x ≡ admittedSaid b m → Accepted k c ≡ judgedSaid b m x → AcceptedBy b m k c
+  unfolding judgedSaid
+  accepted-said (refused r) f h = never cc
+  accepted-said (says d id mac) f h = accepted-row d id mac f (rowOf b id) refl h
 
--- ---- the key of a message
+  pub accepted-by : Accepted k c ≡ checkOf b m → AcceptedBy b m k c
+  unfolding checkOf
+  accepted-by = accepted-said (admittedSaid b m) refl
 
-module _ (b : Book) (m : List ℕ) where
-  pub key-unsound : sound b ≡ false → NoKey UnsoundBook ≡ keyedOf b m
-  unfolding keyedOf keyedSound
-  key-unsound s = rw s
+  pub accepted-facts : Accepted k c ≡ checkOf b m → RowFacts b k
+  accepted-facts e = let w = accepted-by e in row-facts b (w .id) k (w .is-sound) (w .secret)
 
-  module _ (s : sound b ≡ true) where
-    key-said : keyedSaid b (saidOf m) ≡ keyedOf b m
-    unfolding keyedOf keyedSound
-    key-said = rw s
+-- ---- what a check reads: of the message what it says and its image; of the book soundness, the row of the named id, its key and its counter
 
-    pub key-form : (r : Refusal) → formOf m ≡ FormRefused r → NoKey r ≡ keyedOf b m
-    unfolding keyedSaid
-    key-form r e = ap (keyedSaid b) (sym (said-refused m r e)) ∙ key-said
+pub check-alike : (a b : Book) (m n : List ℕ) → sound a ≡ sound b → saidOf m ≡ saidOf n → imageOf m ≡ imageOf n
+    → ((c id : ℕ) (mac : List ℕ) → sound a ≡ true → saidOf m ≡ says c id mac → (rowOf a id ≡ rowOf b id)
+    × ((k : ℕ) → rowOf a id ≡ some k → (keyOf a k ≡ keyOf b k) × (getD (a .received) k 0 ≡ getD (b .received) k 0)))
+    → checkOf a m ≡ checkOf b n
+unfolding checkOf judgedSaid judgedRow
+check-alike a b m n sounds saids images same = on (admittedSaid a m) refl ∙ ap (judgedSaid b n) (admit-alike a b m n sounds saids)
+  where
+    row : (c : ℕ) (mac : List ℕ) (o : Option ℕ) → ((k : ℕ) → o ≡ some k → (keyOf a k ≡ keyOf b k) × (getD (a .received) k 0 ≡ getD (b .received) k 0))
+        → judgedRow a m c mac o ≡ judgedRow b n c mac o
+    row c mac none w = refl
+    row c mac (some k) w = rw (images, w k refl .0, w k refl .1)
 
-    pub key-row : (a : Auth) → formOf m ≡ Full a → (o : Option ℕ) → rowOf b (a .id) ≡ o → keyedRow o ≡ keyedOf b m
-    unfolding keyedSaid
-    key-row a full o e = ap keyedRow (sym e) ∙ ap (keyedSaid b) (sym (full-form m a full .said)) ∙ key-said
-
-keyed-row-within : (b : Book) (id : ℕ) (o : Option ℕ) (k : ℕ) → sound b ≡ true → rowOf b id ≡ o → Row k ≡ keyedRow o → keyStart (b .store) (b .lengths) k ≡ 64 * k
-keyed-row-within b id none k s r e = absurd (let z : _≡_ {A = ℕ} 0 1 = cc in omega arith)
-keyed-row-within b id (some j) k s r e =
-    let g : k ≡ j = cc in
-    row-facts b id k s (r ∙ ap some (sym g)) .key-start
-
-keyed-said-within : (b : Book) (d : Said) (k : ℕ) → sound b ≡ true → Row k ≡ keyedSaid b d → keyStart (b .store) (b .lengths) k ≡ 64 * k
-unfolding keyedSaid
-keyed-said-within b (refused r) k s e = absurd (let z : _≡_ {A = ℕ} 0 1 = cc in omega arith)
-keyed-said-within b (says c id mac) k s e = keyed-row-within b id (rowOf b id) k s refl e
-
-keyed-sound-within : (b : Book) (m : List ℕ) (t : Bool) (k : ℕ) → sound b ≡ t → Row k ≡ keyedSound b m t → keyStart (b .store) (b .lengths) k ≡ 64 * k
-unfolding keyedSound
-keyed-sound-within b m false k s e = absurd (let z : _≡_ {A = ℕ} 0 1 = cc in omega arith)
-keyed-sound-within b m true k s e = keyed-said-within b (saidOf m) k s e
-
--- the key of a named row starts where its slot does
-pub key-within : (b : Book) (m : List ℕ) (k : ℕ) → Row k ≡ keyedOf b m → keyStart (b .store) (b .lengths) k ≡ 64 * k
-unfolding keyedOf
-key-within b m k e = keyed-sound-within b m (sound b) k refl e
-
--- a pointer moved no byte on is the pointer
-pub moved-none : (p : ℕ × ℕ) → p ≡ movedOn p 0
-moved-none p = λ i. (p .0, sym (zero-add (p .1)) i)
+    on : (x : Said) → x ≡ admittedSaid a m → judgedSaid a m x ≡ judgedSaid b n x
+    on (refused r) e = refl
+    on (says c id mac) e =
+        let u = admitted-says a m c id mac e in
+        let w = same c id mac (u .0) (u .1) in
+        row c mac (rowOf a id) (w .1) ∙ ap (judgedRow b n c mac) (w .0)

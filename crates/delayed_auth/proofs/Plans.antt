@@ -1,55 +1,52 @@
--- The ends of `seal`: a plan is one leaf of `sealOf`, and the two writers leave the message that `sealedMessage` says.
--- The only file that unfolds `planOf`, `sealOf` and `sealedMessage`.
+-- The ends of `seal`: each is one leaf of `planOf`; what a sealing says of every stage, and back; and what a seal reads.
+-- The only file that unfolds `planOf` and its stages, and `sealOf`.
 use mathlib.Core.Path.{_≡_, refl, sym, ap, _∙_}
 use mathlib.Core.Logic.{_≢_}
 use mathlib.Core.Bool.{Bool, true, false}
-use mathlib.Core.List.{List, _++_}
+use mathlib.Core.List.{List}
 use mathlib.Core.Option.{Option, none, some}
-use Prim.Native.Nat.{ℕ, _+_, _-_, _^_, _≤_, _<_}
-use native.Mathlib.Omega.{arith}
+use Prim.Native.Nat.{ℕ, _+_}
 use borrow.Author.Tests.{eq-eqb, ne-eqb, eqb-false}
 use lib.Dec.{eqb}
-use lib.ListN.{length, getD, take, drop, length-drop}
-use lib.Seq.{length-take-le}
+use lib.ListN.{getD, set}
 use Rattle.refusal.specs.declared.Refusal.{Refusal}
 use Rattle.refusal.specs.declared.Refusal.the-variants.{UnsoundBook, UnknownSecret, CounterSpent}
-use Rattle.hmac_md5.specs.Hmac.{hmac}
-use Rattle.octets.specs.Bytes.{written, zeros}
-use Rattle.octets.specs.Numbers.{bigAt}
 use Rattle.dhcp_message.specs.Said.{formOf}
-use Rattle.dhcp_message.specs.Image.{imageOf}
-use Rattle.dhcp_message.specs.Seal.{fields, fieldsPut, macPut, sealedWith, withFields}
 use Rattle.dhcp_message.specs.declared.Auth.{Auth}
 use Rattle.dhcp_message.specs.declared.Form.{Form}
 use Rattle.dhcp_message.specs.declared.Form.the-variants.{Refused as FormRefused, Full}
-use Rattle.dhcp_message.proofs.Seals.{seal-laws, full-form}
 use Rattle.key_book.specs.Book.{Book, sound, rowOf, keyOf}
 use Rattle.delayed_auth.specs.declared.Plan.{Plan}
 use Rattle.delayed_auth.specs.declared.Plan.the-variants.{Ready, NotReady}
-use Rattle.delayed_auth.specs.Seal.{Outcome, sealed, unsealed, counterMost, sealedMessage, sealedCounter, sealedRow, sealedForm, sealedSound, sealOf}
-use Rattle.delayed_auth.specs.Plan.{planCounter, planRow, planForm, planSound, planOf}
-use Rattle.delayed_auth.proofs.Judging.{RowFacts, row-facts}
+use Rattle.delayed_auth.specs.declared.Sealing.{Sealing}
+use Rattle.delayed_auth.specs.declared.Sealing.the-variants.{Sealed, Unsealed}
+use Rattle.delayed_auth.specs.Admit.{admittedForm}
+use Rattle.delayed_auth.specs.Seal.{sealed, counterMost, sealedMessage, planCounter, planRow, planForm, planOf, outcomeBy, sealOf}
+use Rattle.delayed_auth.specs.Seal.{Outcome, sealingOf, messageAfter, sentAfter}
+use Rattle.delayed_auth.proofs.Admits.{never, admit-unsound, admit-sound, admitted-full, form-alike, RowFacts, row-facts}
 
--- ---- the plan
+-- ---- the leaves
 
 module _ (b : Book) (id : ℕ) (m : List ℕ) where
+  plan-form : (f : Form) → f ≡ admittedForm b m → planForm b id f ≡ planOf b id m
+  unfolding planOf
+  plan-form f e = ap (planForm b id) e
+
+  pub plan-refusal : (r : Refusal) → FormRefused r ≡ admittedForm b m → NotReady r ≡ planOf b id m
+  unfolding planForm
+  plan-refusal r e = plan-form (FormRefused r) e
+
   pub plan-unsound : sound b ≡ false → NotReady UnsoundBook ≡ planOf b id m
-  unfolding planOf planSound
-  plan-unsound s = rw s
+  plan-unsound s = plan-refusal UnsoundBook (admit-unsound b m s)
 
   module _ (s : sound b ≡ true) where
-    plan-form : (f : Form) → formOf m ≡ f → planForm b id f ≡ planOf b id m
-    unfolding planOf planSound
-    plan-form f e = rw (s, e)
-
     pub plan-refused : (r : Refusal) → formOf m ≡ FormRefused r → NotReady r ≡ planOf b id m
-    unfolding planForm
-    plan-refused r e = plan-form (FormRefused r) e
+    plan-refused r e = plan-refusal r (sym e ∙ admit-sound b m s)
 
     module _ (a : Auth) (full : formOf m ≡ Full a) where
       plan-row : (o : Option ℕ) → rowOf b id ≡ o → planRow b a o ≡ planOf b id m
       unfolding planForm
-      plan-row o e = ap (planRow b a) (sym e) ∙ plan-form (Full a) full
+      plan-row o e = ap (planRow b a) (sym e) ∙ plan-form (Full a) (sym full ∙ admit-sound b m s)
 
       pub plan-unknown : rowOf b id ≡ none → NotReady UnknownSecret ≡ planOf b id m
       unfolding planRow
@@ -64,121 +61,127 @@ module _ (b : Book) (id : ℕ) (m : List ℕ) where
         unfolding planRow
         plan-ready h = rw (ne-eqb (getD (b .sent) k 0) counterMost h) at (plan-row (some k) row)
 
--- ---- what a plan leads to
+  pub seal-planned : (p : Plan) → p ≡ planOf b id m → outcomeBy b id m p ≡ sealOf b id m
+  unfolding sealOf
+  seal-planned p e = ap (outcomeBy b id m) e
 
-abbrev outcomeBy : Book → ℕ → List ℕ → Plan → Outcome
-outcomeBy b id m (Ready a k) = sealed k (getD (b .sent) k 0 + 1) (sealedMessage (keyOf b k) m a (getD (b .sent) k 0 + 1) id)
-outcomeBy b id m (NotReady r) = unsealed r
+  -- what the entry returns, and what it leaves in the message and in the sent counters
+  abbrev Ends : Sealing → List ℕ → List ℕ → Type 0
+  Ends answer message sent =
+      (answer ≡ sealingOf (sealOf b id m)) × ((message ≡ messageAfter (sealOf b id m) m) × (sent ≡ sentAfter (sealOf b id m) (b .sent)))
 
-by-counter : (b : Book) (id : ℕ) (m : List ℕ) (a : Auth) (k : ℕ) (t : Bool) → outcomeBy b id m (planCounter a k t) ≡ sealedCounter b m a id k t
-by-counter b id m a k true = refl
-by-counter b id m a k false = refl
+  ends-by : (p : Plan) → p ≡ planOf b id m
+      → let o = outcomeBy b id m p in Ends (sealingOf o) (messageAfter o m) (sentAfter o (b .sent))
+  ends-by p e =
+      let o = seal-planned p e in
+      (ap sealingOf o, (ap (λ (x : Outcome). messageAfter x m) o, ap (λ (x : Outcome). sentAfter x (b .sent)) o))
 
-by-row : (b : Book) (id : ℕ) (m : List ℕ) (a : Auth) (o : Option ℕ) → outcomeBy b id m (planRow b a o) ≡ sealedRow b m a id o
-unfolding planRow sealedRow
-by-row b id m a none = refl
-by-row b id m a (some k) = by-counter b id m a k (eqb (getD (b .sent) k 0) counterMost)
+  pub ends-refused : (r : Refusal) → NotReady r ≡ planOf b id m → Ends (Unsealed r) m (b .sent)
+  ends-refused r e = ends-by (NotReady r) e
 
-by-form : (b : Book) (id : ℕ) (m : List ℕ) (f : Form) → outcomeBy b id m (planForm b id f) ≡ sealedForm b m id f
-unfolding planForm sealedForm
-by-form b id m (FormRefused r) = refl
-by-form b id m (Full a) = by-row b id m a (rowOf b id)
+  pub ends-sealed : (a : Auth) (k : ℕ) → Ready a k ≡ planOf b id m → (key n : List ℕ) → key ≡ keyOf b k
+      → let c = getD (b .sent) k 0 + 1 in n ≡ sealedMessage key m a c id → Ends (Sealed c) n (set (b .sent) k c)
+  ends-sealed a k e key n f g =
+      let w = ends-by (Ready a k) e in
+      (w .0, (g ∙ ap (λ (x : List ℕ). sealedMessage x m a (getD (b .sent) k 0 + 1) id) f ∙ w .1 .0, w .1 .1))
 
-by-sound : (b : Book) (id : ℕ) (m : List ℕ) (t : Bool) → outcomeBy b id m (planSound b id m t) ≡ sealedSound b id m t
-unfolding planSound sealedSound
-by-sound b id m false = refl
-by-sound b id m true = by-form b id m (formOf m)
+-- ---- a plan that is ready
 
-pub seal-planned : (b : Book) (id : ℕ) (m : List ℕ) (p : Plan) → p ≡ planOf b id m → outcomeBy b id m p ≡ sealOf b id m
-unfolding planOf sealOf
-seal-planned b id m p e = ap (outcomeBy b id m) e ∙ by-sound b id m (sound b)
-
--- ---- what is known where a plan is ready
-
-pub record ReadyFacts (b : Book) (m : List ℕ) (a : Auth) (k : ℕ) : Type 0 where
+pub record ReadyBy (b : Book) (id : ℕ) (m : List ℕ) (a : Auth) (k : ℕ) : Type 0 where
+  pub is-sound : sound b ≡ true
   pub full : formOf m ≡ Full a
+  pub secret : rowOf b id ≡ some k
+  pub unspent : getD (b .sent) k 0 ≢ counterMost
   pub row : RowFacts b k
-  pub left : getD (b .sent) k 0 ≢ counterMost
 
-ready-counter : (a c : Auth) (j k : ℕ) (b : Book) (t : Bool) → eqb (getD (b .sent) j 0) counterMost ≡ t → Ready a k ≡ planCounter c j t → (k ≡ j) × (a ≡ c) × (getD (b .sent) j 0 ≢ counterMost)
-ready-counter a c j k b true f e = absurd (let z : _≡_ {A = ℕ} 0 1 = cc in omega arith)
-ready-counter a c j k b false f e = (cc, cc, eqb-false (getD (b .sent) j 0) counterMost f)
+module _ (b : Book) (id : ℕ) (m : List ℕ) (a : Auth) (k : ℕ) where
+  ready-row : (c : Auth) → Full c ≡ admittedForm b m → (o : Option ℕ) → rowOf b id ≡ o → Ready a k ≡ planRow b c o → ReadyBy b id m a k
+  unfolding planRow
+  ready-row c f none e h = never cc
+  ready-row c f (some r) e h = on (eqb (getD (b .sent) r 0) counterMost) refl h
+    where
+      on : (spent : Bool) → eqb (getD (b .sent) r 0) counterMost ≡ spent → Ready a k ≡ planCounter c r spent → ReadyBy b id m a k
+      on true p h = never cc
+      on false p h =
+          let auth : c ≡ a = cc in
+          let same : r ≡ k = cc in
+          let w = admitted-full b m c f in
+          let secret : rowOf b id ≡ some k = e ∙ ap some same in
+          record {
+            is-sound = w .0;
+            full = w .1 ∙ ap Full auth;
+            secret = secret;
+            unspent = rw (← same) (eqb-false _ _ p);
+            row = row-facts b id k (w .0) secret;
+          }
 
-ready-row : (b : Book) (id : ℕ) (m : List ℕ) (a c : Auth) (k : ℕ) (o : Option ℕ) → sound b ≡ true → formOf m ≡ Full c → rowOf b id ≡ o → Ready a k ≡ planRow b c o → ReadyFacts b m a k
-unfolding planRow
-ready-row b id m a c k none s f r e = absurd (let z : _≡_ {A = ℕ} 0 1 = cc in omega arith)
-ready-row b id m a c k (some j) s f r e =
-    let w = ready-counter a c j k b (eqb (getD (b .sent) j 0) counterMost) refl e in
-    record { full = f ∙ ap Full (sym (w .1)); row = row-facts b id k s (r ∙ ap some (sym (w .0))); left = rw (w .0) (w .2) }
+  ready-form : (f : Form) → f ≡ admittedForm b m → Ready a k ≡ planForm b id f → ReadyBy b id m a k
+  unfolding planForm
+  ready-form (FormRefused r) f h = never cc
+  ready-form (Full c) f h = ready-row c f (rowOf b id) refl h
 
-ready-form : (b : Book) (id : ℕ) (m : List ℕ) (a : Auth) (k : ℕ) (f : Form) → sound b ≡ true → formOf m ≡ f → Ready a k ≡ planForm b id f → ReadyFacts b m a k
-unfolding planForm
-ready-form b id m a k (FormRefused r) s f e = absurd (let z : _≡_ {A = ℕ} 0 1 = cc in omega arith)
-ready-form b id m a k (Full c) s f e = ready-row b id m a c k (rowOf b id) s f refl e
+  pub ready-by : Ready a k ≡ planOf b id m → ReadyBy b id m a k
+  unfolding planOf
+  ready-by = ready-form (admittedForm b m) refl
 
-ready-sound : (b : Book) (id : ℕ) (m : List ℕ) (a : Auth) (k : ℕ) (t : Bool) → sound b ≡ t → Ready a k ≡ planSound b id m t → ReadyFacts b m a k
-unfolding planSound
-ready-sound b id m a k false s e = absurd (let z : _≡_ {A = ℕ} 0 1 = cc in omega arith)
-ready-sound b id m a k true s e = ready-form b id m a k (formOf m) s refl e
+-- ---- a sealing
 
-pub ready-facts : (b : Book) (id : ℕ) (m : List ℕ) (a : Auth) (k : ℕ) → Ready a k ≡ planOf b id m → ReadyFacts b m a k
-unfolding planOf
-ready-facts b id m a k e = ready-sound b id m a k (sound b) refl e
+pub record SealedBy (b : Book) (id : ℕ) (m : List ℕ) (k c : ℕ) (n : List ℕ) : Type 0 where
+  pub is-sound : sound b ≡ true
+  pub auth : Auth
+  pub form : formOf m ≡ Full auth
+  pub secret : rowOf b id ≡ some k
+  pub unspent : getD (b .sent) k 0 ≢ counterMost
+  pub next : c ≡ getD (b .sent) k 0 + 1
+  pub message : n ≡ sealedMessage (keyOf b k) m auth c id
 
--- ---- what the two writers leave
+module _ (b : Book) (id : ℕ) (m : List ℕ) (k c : ℕ) (n : List ℕ) where
+  pub by-sealed : SealedBy b id m k c n → sealed k c n ≡ sealOf b id m
+  by-sealed w =
+      rw (w .message, w .next)
+      (seal-planned b id m (Ready (w .auth) k) (plan-ready b id m (w .is-sound) (w .auth) (w .form) k (w .secret) (w .unspent)))
 
-module _ (m : List ℕ) (a : Auth) (c id : ℕ) (full : formOf m ≡ Full a) (hc : c < 2 ^ 64) (hi : id < 2 ^ 32) where
-  -- the message once counter and id are written
-  pub fielded : List ℕ
-  fielded = written (a .at + 5) (fields c id) m
+  pub sealed-by : sealed k c n ≡ sealOf b id m → SealedBy b id m k c n
+  unfolding sealOf
+  sealed-by = on (planOf b id m) refl
+    where
+      on : (p : Plan) → p ≡ planOf b id m → sealed k c n ≡ outcomeBy b id m p → SealedBy b id m k c n
+      on (NotReady r) e h = never cc
+      on (Ready a r) e h =
+          let w = ready-by b id m a r e in
+          let same : r ≡ k = cc in
+          let counter : getD (b .sent) r 0 + 1 ≡ c = cc in
+          let message : sealedMessage (keyOf b r) m a (getD (b .sent) r 0 + 1) id ≡ n = cc in
+          record {
+            is-sound = w .is-sound;
+            auth = a;
+            form = w .full;
+            secret = w .secret ∙ ap some same;
+            unspent = rw (← same) (w .unspent);
+            next = rw (← same) (sym counter);
+            message = rw (← same, ← counter) (sym message);
+          }
 
-  inside : a .at + 5 + 28 ≤ length m
-  inside = omega (arith, full-form m a full .inside)
+-- ---- what a seal reads: of the book soundness, the row of the given id, its key and its counter; of the message what `sealedMessage` reads
 
-  -- the MAC that stands there, behind the new counter and id
-  abbrev stale : List ℕ
-  stale = take 16 (drop (a .at + 5 + 12) m)
+pub seal-alike : (a b : Book) (id : ℕ) (m : List ℕ) → sound a ≡ sound b → rowOf a id ≡ rowOf b id
+    → ((k : ℕ) → sound a ≡ true → rowOf a id ≡ some k → (keyOf a k ≡ keyOf b k) × (getD (a .sent) k 0 ≡ getD (b .sent) k 0))
+    → sealOf a id m ≡ sealOf b id m
+unfolding sealOf planOf planForm planRow
+seal-alike a b id m sounds rows same =
+    form (admittedForm a m) refl ∙ ap (λ (f : Form). outcomeBy b id m (planForm b id f)) (form-alike a b m sounds)
+  where
+    row : (x : Auth) (o : Option ℕ) → ((k : ℕ) → o ≡ some k → (keyOf a k ≡ keyOf b k) × (getD (a .sent) k 0 ≡ getD (b .sent) k 0))
+        → outcomeBy a id m (planRow a x o) ≡ outcomeBy b id m (planRow b x o)
+    row x none w = refl
+    row x (some k) w = rw (w k refl .1) (on (eqb (getD (b .sent) k 0) counterMost))
+      where
+        on : (t : Bool) → outcomeBy a id m (planCounter x k t) ≡ outcomeBy b id m (planCounter x k t)
+        on true = refl
+        on false = rw (w k refl .0, w k refl .1)
 
-  stale-size : length stale ≡ 16
-  stale-size = length-take-le 16 (drop (a .at + 5 + 12) m) (omega (arith, length-drop (a .at + 5 + 12) m, inside))
-
-  old : List ℕ
-  old = fields c id ++ stale
-
-  length-old : length old ≡ 28
-  unfolding old
-  length-old = seal-laws .seal-size c id stale stale-size
-
-  fielded-sealed : fielded ≡ sealedWith a old m
-  unfolding fielded old
-  fielded-sealed = seal-laws .fields-alone m (a .at + 5) c id inside
-
-  pub fielded-size : length fielded ≡ length m
-  fielded-size = ap length fielded-sealed ∙ seal-laws .seals m a old full length-old .size
-
-  pub fielded-form : formOf fielded ≡ Full (withFields a c id)
-  unfolding old
-  fielded-form =
-      ap formOf fielded-sealed
-      ∙ seal-laws .seals m a old full length-old .form
-      ∙ ap (λ (n : ℕ). Full (withFields a n (bigAt old 8 4))) (seal-laws .counter-read c id stale hc)
-      ∙ ap (λ (n : ℕ). Full (withFields a c n)) (seal-laws .id-read c id stale hi)
-
-  fielded-image : imageOf fielded ≡ imageOf (sealedWith a (fields c id ++ zeros 16) m)
-  unfolding old
-  fielded-image =
-      ap imageOf fielded-sealed
-      ∙ seal-laws .any-mac m a c id stale (zeros 16) full stale-size refl
-
-  pub fields-left : (size : ℕ) → size ≡ 28
-      → take (a .at + 5) m ++ (fieldsPut (take size (drop (a .at + 5) m)) c id ++ drop size (drop (a .at + 5) m)) ≡ fielded
-  unfolding fielded
-  fields-left size e = seal-laws .fields-lent m (a .at + 5) size c id e (omega (arith, inside))
-
-  pub mac-left : (key mac : List ℕ) (size : ℕ) → size ≡ 28 → length mac ≡ 16 → mac ≡ hmac key (imageOf fielded)
-      → take (a .at + 5) fielded ++ (macPut (take size (drop (a .at + 5) fielded)) mac ++ drop size (drop (a .at + 5) fielded)) ≡ sealedMessage key m a c id
-  unfolding fielded sealedMessage
-  mac-left key mac size e l f =
-      seal-laws .mac-lent fielded (a .at + 5) size mac e l (omega (arith, fielded-size, inside))
-      ∙ seal-laws .mac-behind m (a .at + 5) c id mac inside
-      ∙ ap (λ (x : List ℕ). written (a .at + 5) (fields c id ++ x) m) (f ∙ ap (hmac key) fielded-image)
+    form : (f : Form) → f ≡ admittedForm a m → outcomeBy a id m (planForm a id f) ≡ outcomeBy b id m (planForm b id f)
+    form (FormRefused r) e = refl
+    form (Full x) e =
+        row x (rowOf a id) (λ k f. same k (admitted-full a m x e .0) f)
+        ∙ ap (λ (o : Option ℕ). outcomeBy b id m (planRow b x o)) rows

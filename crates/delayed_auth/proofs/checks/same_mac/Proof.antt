@@ -4,20 +4,21 @@ use mathlib.Core.Path.{_≡_, refl, _∙_}
 use mathlib.Core.Bool.{_&&_}
 use native.Mathlib.Numerals.{add-one}
 use lib.ListN.{length, drop}
+use Rattle.dhcp_message.specs.Layout.{macSize}
 use Rattle.delayed_auth.specs.Check.{sameBytes}
 use Rattle.delayed_auth.proofs.Macs.{same-turn, same-end}
 use borrow.Author.Needs.{needs}
 use native.Mathlib.Omega.{arith}
-use Rattle.delayed_auth.proofs.same_mac.Statement.{statement}
-use Rattle.delayed_auth.proofs.same_mac.Tie as tie
+use Rattle.delayed_auth.proofs.checks.same_mac.Statement.{statement}
+use Rattle.delayed_auth.proofs.checks.same_mac.Tie as tie
 
 abbrev Inv-loop : tie.InvT-loop
-Inv-loop b a same₀ i₀ same i = (i ≤ 16) × ((same && sameBytes (drop i b) (drop i a)) ≡ sameBytes b a)
+Inv-loop b a same₀ i₀ same i = (i ≤ macSize) × ((same && sameBytes (drop i b) (drop i a)) ≡ sameBytes b a)
 
 abbrev μ-loop : tie.MeasureT-loop
-μ-loop b a same₀ i₀ same i = 16 - i
+μ-loop b a same₀ i₀ same i = macSize - i
 
-mac-length : (c : tie.Start Inv-loop μ-loop) → length (c .args .t1) ≡ 16
+mac-length : (c : tie.Start Inv-loop μ-loop) → length (c .args .t1) ≡ macSize
 mac-length c = search needs
 
 loop-holds : tie.Need-loop-holds Inv-loop μ-loop
@@ -36,13 +37,15 @@ loop-less : tie.Need-loop-less Inv-loop μ-loop
 loop-less c = omega arith
 
 loop-again : tie.Need-loop-again Inv-loop μ-loop
-loop-again c = let s = c .before .before .before in
+loop-again c =
+    let s = c .before .before .before in
     let l = c .before .before .loop in
     let k = mac-length s in
     (omega arith, rw add-one (same-turn (l .same) (s .args .b .now) (s .args .t1) (l .i) (omega (arith, s .pre)) (omega arith)) ∙ l .inv .1)
 
 returns : tie.Need-returns Inv-loop μ-loop
-returns c = let s = c .before .before in
+returns c =
+    let s = c .before .before in
     let l = c .before .loop in
     let k = mac-length s in
     same-end (l .same) (s .args .b .now) (s .args .t1) (l .i) (omega (arith, s .pre)) (omega arith) ∙ l .inv .1
