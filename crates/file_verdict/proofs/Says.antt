@@ -1,5 +1,5 @@
--- The closed statements of specs/Laws.antt. `LineSays`: a card that can't be judged stops; a malformed one is refused; and the rows of a good one are loaded into the empty book, by
--- which the message is checked.
+-- The closed statements of specs/Laws.antt. `LineSays`: a card that can't be judged stops; a malformed one is refused; and the rows of a good one are
+-- loaded into the empty book, by which the message is checked.
 use Prim.Native.Nat.{ℕ, _*_, _≤_}
 use mathlib.Core.Path.{_≡_, refl, sym, ap, _∙_}
 use mathlib.Core.Bool.{true}
@@ -29,7 +29,7 @@ use Rattle.file_verdict.specs.Files.{loadedOf, bookLoaded, messageLine, 
 use Rattle.file_verdict.specs.Laws.{ContentSays, CardOf, LineSays}
 use Rattle.file_verdict.proofs.Contents.{readable-none, readable-fits, readable-too-large}
 use Rattle.file_verdict.proofs.Reading.{read-more, read-too-much}
-use Rattle.file_verdict.proofs.Stages.{card-unreadable, card-read, book-read, message-unreadable, message-checked}
+use Rattle.file_verdict.proofs.Stages.{card-none, card-read, book-read, message-none, message-checked}
 
 pub content-says : ContentSays
 unfolding afterRead fileIn
@@ -88,23 +88,23 @@ module _ (card : List ℕ) (rows : List Row) (c : CardOf card rows) where
 
   by-rows : (message : Option (List ℕ)) → lineFor (some card) message ≡ messageLine (loaded emptyBook rows) message
   by-rows message =
-      line-rows (some card) message (length rows) (card-read emptyBook (some card) card card-small _ _ refl read-rows)
-      ∙ ap (λ (b : Book). messageLine b message) (sym (book-read emptyBook (some card) card card-small _ rows-book))
+      line-rows (some card) message (length rows) (card-read emptyBook (some card) card-small refl read-rows)
+      ∙ ap (λ (b : Book). messageLine b message) (sym (rows-book ∙ book-read emptyBook (some card) card-small))
 
   by-check : (message : List ℕ) → length message ≤ fileMost → (v : Verdict) → checkOf (loaded emptyBook rows) message ≡ v
       → lineFor (some card) (some message) ≡ verdictLine v
-  by-check message h v e = by-rows (some message) ∙ sym (message-checked (loaded emptyBook rows) (some message) message (readable-fits message h) _ v e refl)
+  by-check message h v e = by-rows (some message) ∙ sym (message-checked (loaded emptyBook rows) (some message) (readable-fits message h) e refl)
 
 pub line-says : LineSays
 line-says = record {
-  card-missing = λ message. line-stopped none message Unreadable (card-unreadable emptyBook none readable-none);
-  card-too-large = λ card h message. line-stopped (some card) message Unreadable (card-unreadable emptyBook (some card) (readable-too-large card h));
+  card-missing = λ message. line-stopped none message Unreadable (card-none emptyBook none readable-none .0);
+  card-too-large = λ card h message. line-stopped (some card) message Unreadable (card-none emptyBook (some card) (readable-too-large card h) .0);
   card-malformed = λ card h b f message.
       line-stopped (some card) message (Refused MalformedCard)
-      (card-read emptyBook (some card) card (readable-fits card h) _ _ refl (read-malformed card (malformed-says card b .1 f)));
-  message-missing = λ card rows c. by-rows card rows c none ∙ sym (message-unreadable (loaded emptyBook rows) none readable-none);
+      (card-read emptyBook (some card) (readable-fits card h) refl (read-malformed card (malformed-says card b .1 f)));
+  message-missing = λ card rows c. by-rows card rows c none ∙ sym (message-none (loaded emptyBook rows) none readable-none .0);
   message-too-large = λ card rows c message h.
-      by-rows card rows c (some message) ∙ sym (message-unreadable (loaded emptyBook rows) (some message) (readable-too-large message h));
+      by-rows card rows c (some message) ∙ sym (message-none (loaded emptyBook rows) (some message) (readable-too-large message h) .0);
   accepted = λ card rows c message h row counter e. by-check card rows c message h _ e;
   refused = λ card rows c message h r e. by-check card rows c message h _ e;
 }
