@@ -5,7 +5,7 @@ use mathlib.Core.Option.{some}
 use mathlib.Core.List.{List, _++_, map}
 use Prim.Native.Nat.{ℕ, suc, _+_, _-_, _*_, _≤_, _<_}
 use native.Mathlib.Omega.{arith}
-use lib.ListN.{length, getD, drop, replicate, length-map, List·getD-append, getD-replicate}
+use lib.ListN.{length, getD, drop, replicate, length-append, length-drop, length-map, List·getD-append, List·getD-map, getD-replicate}
 use lib.Seq.{getD-drop, getD-append-add}
 use Rattle.key_book.specs.Limits.{slotSize}
 use Rattle.key_book.specs.Book.{Book, Sized}
@@ -15,7 +15,20 @@ use Rattle.book_card.specs.Reading.{slotOf, slotsOf, laid, loaded}
 use Rattle.card_laws.specs.Laws.{RowSet, LeftFrom, RowsLeft, RowsRead, ReadSays}
 use Rattle.book_card.proofs.Says.{card-says}
 use Rattle.book_card.proofs.Loads.{Fit, slot-length, slots-length, slots-at}
-use Rattle.card_laws.proofs.Trips.{card-bytes, laid-length, laid-at, given, gives, gives-book}
+use Rattle.card_laws.proofs.Largest.{card-bytes}
+use Rattle.card_laws.proofs.Answers.{given, gives, gives-book}
+
+laid-length : (xs old : List ℕ) → length xs ≤ length old → length (laid xs old) ≡ length old
+unfolding laid
+laid-length xs old h = length-append xs (drop (length xs) old) ∙ ap (λ (n : ℕ). length xs + n) (length-drop (length xs) old) ∙ omega arith
+
+laid-at : (f : Row → ℕ) → f noRow ≡ 0 → (rows : List Row) (old : List ℕ) (k : ℕ) → k < length rows
+    → getD (laid (map f rows) old) k 0 ≡ f (getD rows k noRow)
+unfolding laid
+laid-at f z rows old k h =
+    List·getD-append (map f rows) (drop (length (map f rows)) old) 0 k (rw (length-map rows f) h)
+    ∙ ap (getD (map f rows) k) (sym z)
+    ∙ List·getD-map f rows k noRow
 
 -- an element past those laid over a list is the old one
 laid-left : (xs old : List ℕ) (n : ℕ) → length xs ≡ n → length xs ≤ length old → LeftFrom n old (laid xs old)
@@ -86,7 +99,7 @@ module _ (b : Book) (z : Sized b) (rows : List Row) (o : InOrder rows) (room : l
         sent = one (λ (r : Row). r .sent) (b .sent) (z .sent-agree);
       }
 
-  rows-read : RowsRead b rows (length rows) (loaded b rows)
+  pub rows-read : RowsRead b rows (length rows) (loaded b rows)
   unfolding loaded
   rows-read = record { count = refl; in-use = refl; row = row-set; left = rows-left }
 

@@ -1,3 +1,7 @@
-pub mod Trips
+mod Rows
+pub mod Answers
+pub mod Largest
 pub mod ByRow
+pub mod Trips
+pub mod Depends
 pub mod Computed

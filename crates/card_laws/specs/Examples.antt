@@ -1,4 +1,5 @@
--- Document 01, bench examples 1 and 2, over the definitions (example 10 is in key_book), and a card whose bytes are all different where they may be.
+-- Bench examples 1 and 2 (docs/RULES.md, 'Bench examples') over the definitions (example 10 is in key_book), and a card whose bytes are all different
+-- where they may be.
 use mathlib.Core.Path.{_≡_}
 use mathlib.Core.Option.{none, some}
 use mathlib.Core.List.{List, [], _∷_, _++_}
@@ -45,7 +46,7 @@ pub record Example1 : Type 0 where
   pub read-back : readOf fullRoom cardB ≡ Rows 1
   pub read-book : readBook fullRoom cardB ≡ roomWithB
 
--- document 01, 'The card': the order of the fields and of the bytes in each, by a row in which no two bytes of id and counters are the same
+-- docs/RULES.md, 'The card': the order of the fields and of the bytes in each, by a row in which no two bytes of id and counters are the same
 abbrev pub orderedRow : Row
 orderedRow = record { id = 0x13121110; received = 0x2726252423222120; sent = 0x3736353433323130; key = 0x41 ∷ 0x40 ∷ [] }
 

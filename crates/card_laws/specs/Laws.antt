@@ -1,5 +1,5 @@
--- What is proved of reading and writing cards, each as a closed statement: document 01, 'The card'. The proofs are in proofs/Trips.antt and
--- proofs/ByRow.antt.
+-- What is proved of reading and writing cards, each as a closed statement: docs/RULES.md, 'The card'. The proofs are in proofs/Largest.antt,
+-- ByRow.antt, Trips.antt and Depends.antt.
 use mathlib.Core.Path.{_≡_}
 use mathlib.Core.List.{List, [], _∷_, _++_}
 use Prim.Native.Nat.{ℕ, zero, suc, _+_, _*_, _≤_, _<_}

@@ -69,9 +69,16 @@ limited-judged room (Size n) = on (leb n (length room)) refl (leb n fileMost) re
         readable-too-large (take n room) (omega arith)
 
 -- the same of the content that `within_limit` answered
-module _ (room : List ℕ) (content left : Content) (e : left ≡ limited (length room) content) where
+module _ (room : List ℕ) (content : Content) {left : Content} (e : left ≡ limited (length room) content) where
   pub judged-none : left ≡ Unreadable → readable (fileIn room content) ≡ none
   judged-none u = let j = limited-judged room content in rw (sym e ∙ u) at j
 
-  pub judged-size : (n : ℕ) → left ≡ Size n → (n ≤ length room) × (readable (fileIn room content) ≡ some (take n room))
-  judged-size n u = let j = limited-judged room content in rw (sym e ∙ u) at j
+  module _ {n : ℕ} (u : left ≡ Size n) where
+    judged-size : (n ≤ length room) × (readable (fileIn room content) ≡ some (take n room))
+    judged-size = let j = limited-judged room content in rw (sym e ∙ u) at j
+
+    pub judged-long : n ≡ length (take n room)
+    judged-long = sym (length-take-le n room (judged-size .0))
+
+    pub judged-some : readable (fileIn room content) ≡ some (take n room)
+    judged-some = judged-size .1

@@ -1,14 +1,15 @@
 -- What one read's answer means (`afterRead`), a law for each end of the decision; and what the loop that reads a file needs of it.
 use Prim.Native.Nat.{ℕ, zero, suc, _+_, _≤_, _<_}
 use mathlib.Core.Path.{_≡_, refl, subst}
-use mathlib.Core.Bool.{true, false}
+use mathlib.Core.Bool.{Bool, true, false, cond}
 use native.Mathlib.Omega.{arith}
-use borrow.Author.Tests.{le-leb, lt-leb, ltb-true, ne-eqb}
-use lib.Dec.{T}
+use borrow.Author.Tests.{le-leb, lt-leb, leb-true, ltb-true, ne-eqb, eqb-false}
+use lib.Dec.{T, leb, eqb}
 use lib.IntN.{ℤ, pos, negsuc, natAbs}
 use lib.Signed.{ltZ, nonNeg}
-use Rattle.file_verdict.specs.Files.{afterRead}
+use Rattle.file_verdict.specs.Files.{afterRead, EndSeen}
 use Rattle.file_verdict.specs.declared.Content.the-variants.{Unreadable, Size}
+use Rattle.file_verdict.specs.declared.Progress.{Progress}
 use Rattle.file_verdict.specs.declared.Progress.the-variants.{Ended, More}
 
 pub not-negative : (z : ℤ) → ltZ z (pos 0) ≡ false → T (nonNeg z)
@@ -36,3 +37,22 @@ module _ (have room : ℕ) where
   unfolding afterRead
   read-too-much (pos n) t p h = rw (ne-eqb n 0 (λ e. omega arith), lt-leb (have + n) room h)
   read-too-much (negsuc n) t p h = refl
+
+-- one turn of a loop that reads, where there was room left: what has ended lies within the room, and what goes on has more, and no more than the room
+abbrev pub Turn : ℕ → ℕ → Progress → Type 0
+Turn have room (Ended content) = EndSeen room content
+Turn have room (More n) = (have < n) × (n ≤ room)
+
+pub read-turn : (have room : ℕ) (got : ℤ) → have < room → Turn have room (afterRead have room got)
+unfolding afterRead
+read-turn have room (negsuc k) h = tt
+read-turn have room (pos n) h = on (eqb n 0) refl (leb (have + n) room) refl
+  where
+    on : (t : Bool) → eqb n 0 ≡ t → (u : Bool) → leb (have + n) room ≡ u
+        → Turn have room (cond t (Ended (Size have)) (cond u (More (have + n)) (Ended Unreadable)))
+    on true e u f = h
+    on false e false f = tt
+    on false e true f =
+        let z = eqb-false n 0 e in
+        let l = leb-true (have + n) room f in
+        (omega arith, l)

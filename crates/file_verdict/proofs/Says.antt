@@ -1,26 +1,24 @@
--- The closed statements of specs/Laws.antt. `LineSays`: a card that can't be judged stops; a malformed one is refused; and the rows of a good one are loaded into the empty book, by
--- which the message is checked.
+-- The closed statements of specs/Laws.antt. `LineSays`: a card that can't be judged stops; a malformed one is refused; and the rows of a good one are
+-- loaded into the empty book, by which the message is checked.
 use Prim.Native.Nat.{ℕ, _*_, _≤_}
 use mathlib.Core.Path.{_≡_, refl, sym, ap, _∙_}
-use mathlib.Core.Bool.{true}
 use mathlib.Core.List.{List}
 use mathlib.Core.Option.{Option, none, some}
 use native.Mathlib.Omega.{arith}
-use borrow.Author.Tests.{le-leb, lt-leb, le-ltb}
+use borrow.Author.Tests.{le-leb, lt-leb}
 use lib.IntN.{pos}
 use lib.ListN.{length, length-replicate}
 use Rattle.refusal.specs.declared.Refusal.the-variants.{MalformedCard}
 use Rattle.key_book.specs.Limits.{rowsMost, slotSize}
-use Rattle.key_book.specs.Book.{Book, sized}
-use Rattle.key_book.proofs.Says.{sized-says}
+use Rattle.key_book.specs.Book.{Book, Sized}
 use Rattle.delayed_auth.specs.declared.Verdict.{Verdict}
 use Rattle.delayed_auth.specs.Check.{checkOf}
 use Rattle.book_card.specs.Card.{Row}
-use Rattle.book_card.specs.declared.ReadAnswer.the-variants.{Refused as ReadRefused, Rows as ReadRows}
 use Rattle.book_card.specs.Reader.{readCard}
-use Rattle.book_card.specs.Reading.{readOf, rowsIn, readBy, readBook, loaded}
+use Rattle.book_card.specs.Reading.{loaded}
 use Rattle.book_card.proofs.Says.{card-says, malformed-says}
-use Rattle.card_laws.proofs.Trips.{largest-card}
+use Rattle.card_laws.proofs.Largest.{largest-card}
+use Rattle.card_laws.proofs.Answers.{refuses, gives, gives-book}
 use Rattle.verdict_line.specs.declared.Line.{Line}
 use Rattle.verdict_line.specs.declared.Line.the-variants.{Refused, Unreadable}
 use Rattle.file_verdict.specs.declared.Loaded.the-variants.{Stopped, Rows}
@@ -29,7 +27,7 @@ use Rattle.file_verdict.specs.Files.{loadedOf, bookLoaded, messageLine, 
 use Rattle.file_verdict.specs.Laws.{ContentSays, CardOf, LineSays}
 use Rattle.file_verdict.proofs.Contents.{readable-none, readable-fits, readable-too-large}
 use Rattle.file_verdict.proofs.Reading.{read-more, read-too-much}
-use Rattle.file_verdict.proofs.Stages.{card-unreadable, card-read, book-read, message-unreadable, message-checked}
+use Rattle.file_verdict.proofs.Stages.{card-none, card-read, book-read, message-none, message-checked}
 
 pub content-says : ContentSays
 unfolding afterRead fileIn
@@ -57,54 +55,43 @@ line-rows card message n e = sym (ap (lineAfter card message) e)
 empty-long : length (emptyBook .ids) ≡ rowsMost
 empty-long = length-replicate {A = ℕ} rowsMost 0
 
-empty-sized : sized emptyBook ≡ true
+empty-sized : Sized emptyBook
 empty-sized =
     let l = empty-long in
     let s = length-replicate {A = ℕ} (rowsMost * slotSize) 0 in
-    sized-says emptyBook .1 (record { room = omega arith; lengths-agree = refl; store-agrees = omega arith; received-agree = refl; sent-agree = refl })
-
--- reading into it
-read-malformed : (card : List ℕ) → readCard card ≡ none → ReadRefused MalformedCard ≡ readOf emptyBook card
-unfolding readOf
-read-malformed card e = rw (empty-sized, e)
+    record { room = omega arith; lengths-agree = refl; store-agrees = omega arith; received-agree = refl; sent-agree = refl }
 
 module _ (card : List ℕ) (rows : List Row) (c : CardOf card rows) where
   card-rows : readCard card ≡ some rows
   card-rows = card-says card (c .bytes) rows .1 (c .in-order, c .is-card)
 
-  read-rows : ReadRows (length rows) ≡ readOf emptyBook card
-  unfolding readOf
-  read-rows =
-      let f = c .in-order .few in
-      let l = empty-long in
-      rw (empty-sized, card-rows, le-ltb (length (emptyBook .ids)) (length rows) (omega arith))
-
-  rows-book : loaded emptyBook rows ≡ readBook emptyBook card
-  unfolding readBook rowsIn
-  rows-book = sym (ap (readBy emptyBook card) (sym read-rows) ∙ rw card-rows)
+  rows-room : length rows ≤ length (emptyBook .ids)
+  rows-room = let f = c .in-order .few in let l = empty-long in omega arith
 
   card-small : readable (some card) ≡ some card
   card-small = readable-fits card (let m = largest-card .most rows (c .in-order) in let l = ap length (c .is-card) in omega arith)
 
   by-rows : (message : Option (List ℕ)) → lineFor (some card) message ≡ messageLine (loaded emptyBook rows) message
   by-rows message =
-      line-rows (some card) message (length rows) (card-read emptyBook (some card) card card-small _ _ refl read-rows)
-      ∙ ap (λ (b : Book). messageLine b message) (sym (book-read emptyBook (some card) card card-small _ rows-book))
+      let r = gives emptyBook empty-sized card rows card-rows rows-room in
+      let k = gives-book emptyBook empty-sized card rows card-rows rows-room in
+      line-rows (some card) message (length rows) (card-read emptyBook (some card) card-small r refl)
+      ∙ ap (λ (b : Book). messageLine b message) (sym (book-read emptyBook (some card) card-small) ∙ k)
 
   by-check : (message : List ℕ) → length message ≤ fileMost → (v : Verdict) → checkOf (loaded emptyBook rows) message ≡ v
       → lineFor (some card) (some message) ≡ verdictLine v
-  by-check message h v e = by-rows (some message) ∙ sym (message-checked (loaded emptyBook rows) (some message) message (readable-fits message h) _ v e refl)
+  by-check message h v e = by-rows (some message) ∙ sym (message-checked (loaded emptyBook rows) (some message) (readable-fits message h) e refl)
 
 pub line-says : LineSays
 line-says = record {
-  card-missing = λ message. line-stopped none message Unreadable (card-unreadable emptyBook none readable-none);
-  card-too-large = λ card h message. line-stopped (some card) message Unreadable (card-unreadable emptyBook (some card) (readable-too-large card h));
+  card-missing = λ message. line-stopped none message Unreadable (card-none emptyBook none readable-none .0);
+  card-too-large = λ card h message. line-stopped (some card) message Unreadable (card-none emptyBook (some card) (readable-too-large card h) .0);
   card-malformed = λ card h b f message.
       line-stopped (some card) message (Refused MalformedCard)
-      (card-read emptyBook (some card) card (readable-fits card h) _ _ refl (read-malformed card (malformed-says card b .1 f)));
-  message-missing = λ card rows c. by-rows card rows c none ∙ sym (message-unreadable (loaded emptyBook rows) none readable-none);
+      (card-read emptyBook (some card) (readable-fits card h) (refuses emptyBook empty-sized card (malformed-says card b .1 f)) refl);
+  message-missing = λ card rows c. by-rows card rows c none ∙ sym (message-none (loaded emptyBook rows) none readable-none .0);
   message-too-large = λ card rows c message h.
-      by-rows card rows c (some message) ∙ sym (message-unreadable (loaded emptyBook rows) (some message) (readable-too-large message h));
+      by-rows card rows c (some message) ∙ sym (message-none (loaded emptyBook rows) (some message) (readable-too-large message h) .0);
   accepted = λ card rows c message h row counter e. by-check card rows c message h _ e;
   refused = λ card rows c message h r e. by-check card rows c message h _ e;
 }

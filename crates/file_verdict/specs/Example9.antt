@@ -1,4 +1,5 @@
--- Document 01, bench example 9, over the definitions: the two files as bytes, and the line. The MAC is that of an outside implementation of HMAC-MD5.
+-- Bench example 9 (docs/RULES.md, 'Bench examples') over the definitions: the two files as bytes, and the line. The MAC is that of an outside
+-- implementation of HMAC-MD5.
 -- Book B has one row: id 7, received 10, sent 3, key 1, 2, 3, 4.
 use Prim.Native.Nat.{ℕ}
 use mathlib.Core.Path.{_≡_}

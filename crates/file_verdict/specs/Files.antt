@@ -1,13 +1,14 @@
--- From the two files to the line: document 01, bench example 9. A file is its bytes, or none where it is missing or can't be read.
+-- From the two files to the line: docs/RULES.md, 'The program'. A file is its bytes, or none where it is missing or can't be read.
 -- `lineFor` is the whole decision. It goes in two parts, since the card is judged before the message file is looked at: by `loadedOf` and
 -- `bookLoaded` from the card, and by `messageLine` from the book and the message.
-use Prim.Native.Nat.{ℕ, _+_, _*_}
+use Prim.Native.Nat.{ℕ, _+_, _*_, _<_}
 use mathlib.Core.Bool.{cond}
 use mathlib.Core.List.{List}
 use mathlib.Core.Option.{Option, none, some}
 use lib.Dec.{leb, eqb}
 use lib.IntN.{ℤ, pos, negsuc}
-use lib.ListN.{length, take, replicate}
+use lib.ListN.{length, take}
+use Rattle.octets.specs.Bytes.{zeros}
 use Rattle.key_book.specs.Limits.{rowsMost, slotSize}
 use Rattle.key_book.specs.Book.{Book, bookOf}
 use Rattle.delayed_auth.specs.declared.Verdict.{Verdict}
@@ -50,6 +51,11 @@ limited room (Size n) = cond (leb n room) (cond (leb n fileMost) (Size n) NoCont
 unfoldable pub afterRead : ℕ → ℕ → ℤ → Progress
 afterRead have room (negsuc k) = Ended NoContent
 afterRead have room (pos n) = cond (eqb n 0) (Ended (Size have)) (cond (leb (have + n) room) (More (have + n)) (Ended NoContent))
+
+-- what was read is less than the room, so that the file's end was seen
+abbrev pub EndSeen : ℕ → Content → Type 0
+EndSeen room NoContent = Unit {0}
+EndSeen room (Size n) = n < room
 
 -- ---- the card
 
@@ -102,7 +108,7 @@ receivedLeft b message = receivedFrom b (readable message)
 
 -- a book with room for as many rows as a card may have, and nothing in it
 abbrev pub emptyBook : Book
-emptyBook = bookOf (replicate rowsMost 0) (replicate rowsMost 0) (replicate (rowsMost * slotSize) 0) (replicate rowsMost 0) (replicate rowsMost 0) 0
+emptyBook = bookOf (zeros rowsMost) (zeros rowsMost) (zeros (rowsMost * slotSize)) (zeros rowsMost) (zeros rowsMost) 0
 
 abbrev pub lineAfter : (card message : Option (List ℕ)) → Loaded → Line
 lineAfter card message (Stopped line) = line

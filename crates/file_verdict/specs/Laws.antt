@@ -1,4 +1,5 @@
--- What reads and rooms mean, and what the line is for any two files, in document 01's words (bench example 9): closed statements, proved in proofs/Says.antt.
+-- What reads and rooms mean, and what the line is for any two files, in the rules' words (docs/RULES.md, 'The program'): closed statements, proved in
+-- proofs/Says.antt.
 use Prim.Native.Nat.{ℕ, _+_, _≤_, _<_}
 use mathlib.Core.Path.{_≡_}
 use mathlib.Core.List.{List}

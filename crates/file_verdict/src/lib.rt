@@ -1,4 +1,4 @@
-// From the bytes of `book.card` and `message.bin` to the line that the program `judge` writes: document 01, bench example 9.
+// From the bytes of `book.card` and `message.bin` to the line that the program `judge` writes: docs/RULES.md, 'The program'.
 // The card is judged first (`load_card`), and only where it gives rows is there a message to judge (`message_line`).
 // Not here: opening and reading the files (judge), and the line's bytes (verdict_line).
 //
@@ -84,13 +84,13 @@ pub fn load_card(
     sent: &mut [u64],
 ) -> Loaded
     ensures answer { λ r. ⌜
-        r ≡ loadedOf (bookOf (now (ids .entry)) (now (lengths .entry)) (now (store .entry)) (now (received .entry)) (now (sent .entry)) 0)
-        (fileIn (now (room .entry)) content)
+        (let b = bookOf (now (ids .entry)) (now (lengths .entry)) (now (store .entry)) (now (received .entry)) (now (sent .entry)) 0 in
+        r ≡ loadedOf b (fileIn (now (room .entry)) content))
         ⌝ }
     ensures after { λ r. ⌜
+        (let b = bookOf (now (ids .entry)) (now (lengths .entry)) (now (store .entry)) (now (received .entry)) (now (sent .entry)) 0 in
         bookOf (now (ids .exit)) (now (lengths .exit)) (now (store .exit)) (now (received .exit)) (now (sent .exit)) (rowsLoaded r)
-        ≡ bookLoaded (bookOf (now (ids .entry)) (now (lengths .entry)) (now (store .entry)) (now (received .entry)) (now (sent .entry)) 0)
-        (fileIn (now (room .entry)) content)
+        ≡ bookLoaded b (fileIn (now (room .entry)) content))
         ⌝ }
 {
     let card = within_limit(content, room.len());
@@ -116,13 +116,12 @@ pub fn message_line(
     rows: usize,
 ) -> Line
     ensures answer { λ r. ⌜
-        r ≡ messageLine (bookOf (now (ids .entry)) (now (lengths .entry)) (now (store .entry)) (now (received .entry)) (now (sent .entry)) rows)
-        (fileIn (now (room .entry)) content)
+        (let b = bookOf (now (ids .entry)) (now (lengths .entry)) (now (store .entry)) (now (received .entry)) (now (sent .entry)) rows in
+        r ≡ messageLine b (fileIn (now (room .entry)) content))
         ⌝ }
     ensures stored { λ _. ⌜
-        now (received .exit)
-        ≡ receivedLeft (bookOf (now (ids .entry)) (now (lengths .entry)) (now (store .entry)) (now (received .entry)) (now (sent .entry)) rows)
-        (fileIn (now (room .entry)) content)
+        (let b = bookOf (now (ids .entry)) (now (lengths .entry)) (now (store .entry)) (now (received .entry)) (now (sent .entry)) rows in
+        now (received .exit) ≡ receivedLeft b (fileIn (now (room .entry)) content))
         ⌝ }
 {
     let message = within_limit(content, room.len());

@@ -1,3 +1,2 @@
-mod Sizes
 mod Turns
 mod Lines

@@ -1,12 +1,12 @@
 // Judges the message in the file `message.bin` by the key book on the card in the file `book.card`, both in the current folder, and writes one line
-// (verdict_line): document 01, bench example 9.
+// (verdict_line): docs/RULES.md, 'The program'.
 // The card is judged before the message file is looked at. Neither file is changed: a counter that is accepted is not written back.
 // Here are the reads and the write; what the files' bytes mean is decided in file_verdict.
 ghost use mathlib.Core.Path.{_≡_};
 ghost use Prim.Native.Nat.{_+_, _<_};
 ghost use lib.ListN.{length, take};
-ghost use Rattle.file_verdict.specs.Files.{fileMost, fileIn};
-ghost use Rattle.judge.specs.Files.{ReadMeans, EndSeen, CardLine};
+ghost use Rattle.file_verdict.specs.Files.{fileMost, fileIn, EndSeen};
+ghost use Rattle.judge.specs.Program.{ReadMeans, CardLine};
 use file_verdict::Content;
 use file_verdict::FILE_MOST;
 use file_verdict::Loaded;
