@@ -1,13 +1,14 @@
 -- `hmac_md5::digest_after` meets its contract: two pieces from a fresh state.
 use mathlib.Core.Path.{_≡_}
 use lib.ListN.{length}
+use Rattle.md5.specs.Block.{blockSize}
 use Rattle.hmac_md5.proofs.Masks.{two-pieces}
 use borrow.Author.Needs.{needs}
 use native.Mathlib.Omega.{arith}
 use Rattle.hmac_md5.proofs.digest_after.Statement.{statement}
 use Rattle.hmac_md5.proofs.digest_after.Tie as tie
 
-block-length : (c : tie.Start) → length (c .args .t1) ≡ 64
+block-length : (c : tie.Start) → length (c .args .t1) ≡ blockSize
 block-length c = search needs
 
 begin-requires : tie.Need-begin-requires
