@@ -2,12 +2,12 @@
 use mathlib.Core.Path.{_≡_}
 use mathlib.Core.Logic.{_≢_}
 use mathlib.Core.List.{List, _∷_, _++_}
-use Prim.Native.Nat.{ℕ, _+_, _-_, _*_, _%_, _≤_, _<_}
+use Prim.Native.Nat.{ℕ, _+_, _-_, _*_, _/_, _%_, _≤_, _<_}
 use native.Mathlib.Numerals.{add-one}
 use native.Mathlib.Decide.{decLe}
 use native.Mathlib.Omega.{arith}
 use borrow.Author.Tests.{le-leb, lt-leb}
-use lib.ListN.{length, take, set}
+use lib.ListN.{length, take, set, length-append, length-replicate}
 use Rattle.octets.specs.Bytes.{written, zeros}
 use Rattle.octets.specs.Numbers.{le}
 use Rattle.octets.proofs.Written.{take-written}
@@ -47,6 +47,10 @@ md5-taken s h = rw (le-leb (length s) digestMost h)
 pub md5-refused : (s : List ℕ) → digestMost < length s → md5Of s ≡ record { number = numberOf TooLong; digest = noDigest }
 unfolding md5Of
 md5-refused s h = rw (lt-leb (length s) digestMost h)
+
+pub padded-long : (s : List ℕ) → length (padded s) ≡ blockSize * (1 + (length s + 8) / blockSize)
+unfolding padded padding
+padded-long s = simp (length-append, length-replicate, le-length) (omega arith)
 
 -- a fresh state that has taken s ends in the digest of s
 pub md5-of-fresh : (s : List ℕ) → length s ≤ digestMost → finishOf (absorb fresh s) ≡ record { number = done; digest = md5 s }
