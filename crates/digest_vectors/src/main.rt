@@ -1,9 +1,11 @@
 // Writes RFC 1321's seven digests (appendix A.5) and RFC 2202's HMAC-MD5 cases 1 to 5 (section 2), one to a line with its case's name.
 // What they should be, from the RFCs, stands in the file `stdout` beside this folder.
-fn show(name: &[u8], bytes: [u8; 16]) {
+use md5::DIGEST_SIZE;
+
+fn show(name: &[u8], bytes: [u8; DIGEST_SIZE]) {
     io::write_all(1, name);
     let mut i: usize = 0;
-    while i < 16 {
+    while i < DIGEST_SIZE {
         io::print_hex(1, bytes[i] as u64, 2);
         i += 1;
     }

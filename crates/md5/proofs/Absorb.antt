@@ -7,7 +7,7 @@ use lib.ListN.{length, take, drop, length-append, length-drop, take-append-drop,
 use lib.Seq.{length-take-le, drop-append-le, take-all, drop-drop}
 use Rattle.octets.specs.Bytes.{written, zeros, filled}
 use Rattle.octets.proofs.Written.{length-written, take-written, written-last}
-use Rattle.octets.proofs.Filled.{length-filled, take-filled, drop-filled, cleared-from}
+use Rattle.octets.proofs.Filled.{filled-parts, length-filled, take-filled, drop-filled, cleared-from}
 use Rattle.md5.specs.declared.Words.{Words}
 use Rattle.md5.specs.declared.Digest.{Digest}
 use Rattle.md5.specs.Block.{blockSize, compress, load, blocks}
@@ -67,8 +67,8 @@ unfolding fresh
 fresh-total = refl
 
 pub absorb-none : absorb fresh [] ≡ fresh
-unfolding absorb settle fresh filled blocks
-absorb-none = refl
+unfolding absorb settle fresh
+absorb-none = cc (filled-parts blockSize [], blocks-few [] start (omega arith))
 
 pub absorb-fresh : (s : List ℕ) → absorb fresh s .words ≡ blocks (length s / blockSize) s start
 unfolding absorb settle fresh

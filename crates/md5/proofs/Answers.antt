@@ -1,13 +1,13 @@
 -- Laws of the entries' answers: each by the limit on its total, and as the code comes to it.
-use mathlib.Core.Path.{_≡_, sym, ap, _∙_}
+use mathlib.Core.Path.{_≡_}
 use mathlib.Core.Logic.{_≢_}
 use mathlib.Core.List.{List, _∷_, _++_}
-use Prim.Native.Nat.{ℕ, _+_, _-_, _*_, _%_, _≤_, _<_}
+use Prim.Native.Nat.{ℕ, _+_, _-_, _*_, _/_, _%_, _≤_, _<_}
 use native.Mathlib.Numerals.{add-one}
 use native.Mathlib.Decide.{decLe}
 use native.Mathlib.Omega.{arith}
 use borrow.Author.Tests.{le-leb, lt-leb}
-use lib.ListN.{length, take, set}
+use lib.ListN.{length, take, set, length-append, length-replicate}
 use Rattle.octets.specs.Bytes.{written, zeros}
 use Rattle.octets.specs.Numbers.{le}
 use Rattle.octets.proofs.Written.{take-written}
@@ -17,7 +17,6 @@ use Rattle.refusal.specs.Number.{numberOf, done}
 use Rattle.refusal.specs.declared.Refusal.the-variants.{TooLong}
 use Rattle.md5.specs.declared.Digest.{Digest}
 use Rattle.md5.specs.declared.Fed.{Fed}
-use Rattle.md5.specs.declared.Finished.{Finished}
 use Rattle.md5.specs.Block.{blockSize}
 use Rattle.md5.specs.Message.{padding, padded, output, md5}
 use Rattle.md5.specs.Entries.{digestMost, fresh, absorb, noDigest, feedOf, finishOf, md5Of}
@@ -49,33 +48,33 @@ pub md5-refused : (s : List ℕ) → digestMost < length s → md5Of s ≡ recor
 unfolding md5Of
 md5-refused s h = rw (lt-leb (length s) digestMost h)
 
+pub padded-long : (s : List ℕ) → length (padded s) ≡ blockSize * (1 + (length s + 8) / blockSize)
+unfolding padded padding
+padded-long s = simp (length-append, length-replicate, le-length) (omega arith)
+
 -- a fresh state that has taken s ends in the digest of s
 pub md5-of-fresh : (s : List ℕ) → length s ≤ digestMost → finishOf (absorb fresh s) ≡ record { number = done; digest = md5 s }
 unfolding md5 padded
 md5-of-fresh s h =
-    let d = absorb fresh s in
-    let e : d .total ≡ length s = omega (arith, absorb-total fresh s, fresh-total) in
-    finish-taken d (omega arith)
-    ∙ ap {B = Finished} (λ (l : List ℕ). record { number = done; digest = l })
-    (ap (λ (n : ℕ). output (absorb d (padding n) .words)) e
-    ∙ ap (λ (f : Digest). output (f .words)) (absorb-append fresh fresh-long s (padding (length s)))
-    ∙ ap output (absorb-fresh (s ++ padding (length s))))
+    let e : absorb fresh s .total ≡ length s = omega (arith, absorb-total fresh s, fresh-total) in
+    cc (finish-taken (absorb fresh s) (omega arith), absorb-append fresh fresh-long s (padding (length s)), absorb-fresh (s ++ padding (length s)))
 
 -- ---- as the code comes to them: a fresh state fed with s, and the padding's bytes
 
-pub md5-fed-refused : (s : List ℕ) (f : Fed) → f ≡ feedOf fresh s → f .number ≢ done → record { number = f .number; digest = noDigest } ≡ md5Of s
-md5-fed-refused s f e h =
-    elim (decLe (length s) digestMost) [
-      | yes l ↦ absurd (h (ap (λ (g : Fed). g .number) (e ∙ feed-taken fresh s (omega (arith, fresh-total)))))
-      | no l ↦ ap {B = Finished} (λ (g : Fed). record { number = g .number; digest = noDigest }) (e ∙ feed-refused fresh s (omega (arith, fresh-total))) ∙ sym (md5-refused s (omega arith))
-    ]
+module _ (s : List ℕ) (f : Fed) (e : f ≡ feedOf fresh s) where
+  pub md5-fed-refused : f .number ≢ done → record { number = f .number; digest = noDigest } ≡ md5Of s
+  md5-fed-refused h =
+      elim (decLe (length s) digestMost) [
+        | yes l ↦ let t = feed-taken fresh s (omega (arith, fresh-total)) in absurd (h (cc))
+        | no l ↦ cc (feed-refused fresh s (omega (arith, fresh-total)), md5-refused s (omega arith))
+      ]
 
-pub md5-fed-taken : (s : List ℕ) (f : Fed) → f ≡ feedOf fresh s → f .number ≡ done → finishOf (f .state) ≡ md5Of s
-md5-fed-taken s f e h =
-    elim (decLe (length s) digestMost) [
-      | yes l ↦ ap (λ (g : Fed). finishOf (g .state)) (e ∙ feed-taken fresh s (omega (arith, fresh-total))) ∙ md5-of-fresh s l ∙ sym (md5-taken s l)
-      | no l ↦ absurd (omega (arith, sym h ∙ ap (λ (g : Fed). g .number) (e ∙ feed-refused fresh s (omega (arith, fresh-total)))))
-    ]
+  pub md5-fed-taken : f .number ≡ done → finishOf (f .state) ≡ md5Of s
+  md5-fed-taken h =
+      elim (decLe (length s) digestMost) [
+        | yes l ↦ cc (feed-taken fresh s (omega (arith, fresh-total)), md5-of-fresh s l, md5-taken s l)
+        | no l ↦ let t = feed-refused fresh s (omega (arith, fresh-total)) in let z : numberOf TooLong ≡ done = cc in absurd (omega arith)
+      ]
 
 -- the single 1 bit, the zeros and the count of bits, written into a list of zeros
 pub padding-written : (n : ℕ) → let k = (119 - n % blockSize) % blockSize in
@@ -85,4 +84,4 @@ padding-written n =
     let k : ℕ = (119 - n % blockSize) % blockSize in
     let l = le-length 8 (n * 8) in
     let e : k + 9 ≡ k + 1 + length (le 8 (n * 8)) = omega arith in
-    rw (e, take-written (k + 1) (le 8 (n * 8)) (0x80 ∷ zeros 71) (omega arith), add-one, take-zeros k 71 (omega arith))
+    rw (e, take-written (k + 1) (le 8 (n * 8)) (0x80 ∷ zeros (blockSize + 7)) (omega arith), add-one, take-zeros k (blockSize + 7) (omega arith))

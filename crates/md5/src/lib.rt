@@ -97,6 +97,7 @@ impl Digest {
                 digest: [0u8; DIGEST_SIZE],
             };
         }
+        // a single 1 bit, zeros up to 8 bytes before the end of a block, and the number of bits
         let zeros = (119 - total % BLOCK_SIZE) % BLOCK_SIZE;
         let mut pad = [0u8; BLOCK_SIZE + 8];
         pad[0] = 0x80;

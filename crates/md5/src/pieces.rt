@@ -1,4 +1,5 @@
-// What a digest in progress does with a piece, and the digest's bytes.
+// How a digest in progress takes a piece, and the bytes of the digest.
+// Not here: the limit on the total, which the entries keep (lib.rt).
 ghost use mathlib.Core.Path.{_≡_};
 ghost use Prim.Native.Nat.{_+_, _*_, _≤_};
 ghost use lib.ListN.{length};

@@ -20,6 +20,10 @@ drop-zeros (suc m) zero = let e : 0 - suc m ≡ 0 = omega arith in rw e
 drop-zeros (suc m) (suc n) = let e : suc n - suc m ≡ n - m = omega arith in rw e (drop-zeros m n)
 
 module _ (size : ℕ) (s : List ℕ) where
+  pub filled-parts : filled size s ≡ s ++ zeros (size - length s)
+  unfolding filled
+  filled-parts = refl
+
   pub length-filled : length s ≤ size → length (filled size s) ≡ size
   unfolding filled
   length-filled h = simp (length-append, length-replicate) (omega arith)
