@@ -8,7 +8,7 @@ use mathlib.Core.List.{List, _∷_, _++_, append-assoc}
 use lib.ListN.{length, take, drop, getD, length-append, length-drop, take-append-drop}
 use lib.Seq.{length-take-le, take-at, drop-at, drop-append-le}
 use lib.Dec.{ltb, eqb}
-use borrow.Author.Tests.{le-ltb, ne-eqb, eqb-false, ltb-false}
+use borrow.Author.Tests.{lt-ltb, le-ltb, ne-eqb, eqb-false, ltb-false}
 use Rattle.refusal.specs.declared.Refusal.the-variants.{MessageSize, WrongCookie, NoAuthentication, RepeatedAuthentication, RelayInformation}
 use Rattle.dhcp_message.specs.Layout.{magicCookie}
 use Rattle.octets.specs.Bytes.{starts}
@@ -76,12 +76,32 @@ module _ (m : List ℕ) where
   pub passing : (ts : List Token) (rest : List ℕ) → checkedOf m ≡ passed ts rest → Passing m ts rest
   passing ts rest e = subst (Good m) e good
 
+  -- the checks in turn
+  pub checks-short : length m < 241 → checkedOf m ≡ stopped MessageSize
+  unfolding checkedOf
+  checks-short h = rw (lt-ltb _ _ h)
+
+  module _ (h₀ : 241 ≤ length m) where
+    pub checks-long : 1472 < length m → checkedOf m ≡ stopped MessageSize
+    unfolding checkedOf
+    checks-long h = rw (le-ltb _ _ h₀, lt-ltb _ _ h)
+
+    module _ (h₁ : length m ≤ 1472) where
+      pub checks-cookie : starts magicCookie (drop 236 m) ≡ false → checkedOf m ≡ stopped WrongCookie
+      unfolding checkedOf
+      checks-cookie k = rw (le-ltb _ _ h₀, le-ltb _ _ h₁, k)
+
+      pub checks-options : starts magicCookie (drop 236 m) ≡ true → checkedOf m ≡ checkedParsed (decode (drop 240 m))
+      unfolding checkedOf
+      checks-options k = rw (le-ltb _ _ h₀, le-ltb _ _ h₁, k)
+
   pub checks : {ts : List Token} {rest : List ℕ} → Passing m ts rest → checkedOf m ≡ passed ts rest
-  unfolding checkedOf checkedTokens
+  unfolding checkedTokens
   checks {ts} p =
       let a : count 90 ts ≢ 0 = λ e. omega (arith, p .one-90) in
       let b : count 90 ts ≤ 1 = omega (arith, p .one-90) in
-      rw (le-ltb _ _ (p .long), le-ltb _ _ (p .short), p .magic, p .reads, ne-eqb _ _ a, le-ltb _ _ b, le-ltb _ _ (p .most-82), p .last-82)
+      checks-options (p .long) (p .short) (p .magic) ∙ ap checkedParsed (p .reads)
+      ∙ rw (ne-eqb _ _ a, le-ltb _ _ b, le-ltb _ _ (p .most-82), p .last-82)
 
   pub passing-27 : {ts : List Token} {rest : List ℕ} → Passing m ts rest → Passes27 m
   passing-27 p = subst Passed (sym (checks p)) tt
