@@ -46,7 +46,8 @@ resume f at ts = record {
 }
 
 module _ (f : Tally) (c at : ℕ) (b : List ℕ) (ts : List Token) where
-  one-more : (x y : Bool) → eqb c 90 ≡ x → eqb c 82 ≡ y → resume (seenOf f c at (2 + length b)) (at + (2 + length b)) ts ≡ resume f at (opt c b ∷ ts)
+  one-more : (x y : Bool) → eqb c 90 ≡ x → eqb c 82 ≡ y
+      → resume (seenOf f c at (2 + length b)) (at + (2 + length b)) ts ≡ resume f at (opt c b ∷ ts)
   one-more true true hx hy = absurd (omega (arith, eqb-true c 90 hx, eqb-true c 82 hy))
   one-more true false hx hy =
       let e = eqb-true c 90 hx in
@@ -54,7 +55,9 @@ module _ (f : Tally) (c at : ℕ) (b : List ℕ) (ts : List Token) where
   one-more false true hx hy =
       let e = eqb-true c 82 hy in
       rw (← seen-relay f c at (2 + length b) (eqb-false c 90 hx) e, hx, hy, add-assoc, zero-add, e)
-  one-more false false hx hy = rw (← seen-other f c at (2 + length b) (eqb-false c 90 hx) (eqb-false c 82 hy), hx, hy, zero-add (count 90 ts), zero-add (count 82 ts))
+  one-more false false hx hy =
+      let e = seen-other f c at (2 + length b) (eqb-false c 90 hx) (eqb-false c 82 hy) in
+      rw (← e, hx, hy, zero-add (count 90 ts), zero-add (count 82 ts))
 
 pub scan-is : (ts : List Token) (f : Tally) (at : ℕ) → scanFrom f at ts ≡ SWhole (resume f at ts) (at + length (encode ts))
 scan-is [] f at = rw (add-zero (f .n90), add-zero (f .n82), add-zero at)
@@ -115,7 +118,9 @@ module _ (c : ℕ) where
     s = split c ts (omega arith)
 
     none-back : count c (s .back) ≡ 0
-    none-back = let n : count c ts ≡ count c (s .front) + (1 + count c (s .back)) = ap (count c) (s .tokens) ∙ count-split c (s .front) (s .body) (s .back) in omega arith
+    none-back =
+        let n : count c ts ≡ count c (s .front) + (1 + count c (s .back)) = ap (count c) (s .tokens) ∙ count-split c (s .front) (s .body) (s .back) in
+        omega arith
 
     pub place-once : (at d : ℕ) → place c at d ts ≡ at + length (encode (tokensBefore c ts))
     place-once at d =

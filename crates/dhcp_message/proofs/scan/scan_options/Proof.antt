@@ -18,23 +18,11 @@ abbrev μ-loop : tie.MeasureT-loop
 loop-holds : tie.Need-loop-holds Inv-loop μ-loop
 loop-holds c = head-start _
 
-here-at-requires : tie.Need-here-at-requires Inv-loop μ-loop
-here-at-requires c κs = search needs
-
-enum-told : tie.Need-enum-told Inv-loop μ-loop
-enum-told c = search needs
-
 returns : tie.Need-returns Inv-loop μ-loop
 returns c = let asked = c .before .before in turn-cut _ _ _ (asked .before .loop .inv) (sym (c .enum-told .given .1) ∙ asked .here-at .ensures)
 
-enum-told-2 : tie.Need-enum-told-2 Inv-loop μ-loop
-enum-told-2 c = search needs
-
 returns-2 : tie.Need-returns-2 Inv-loop μ-loop
 returns-2 c = let asked = c .before .before in turn-end _ _ _ (asked .before .loop .inv) (sym (c .enum-told2 .given .1) ∙ asked .here-at .ensures)
-
-enum-told-3 : tie.Need-enum-told-3 Inv-loop μ-loop
-enum-told-3 c = search needs
 
 add-at : tie.Need-add-at Inv-loop μ-loop
 add-at c = omega (arith, pad-fits _ _ (sym (c .enum-told3 .given .1) ∙ c .before .before .here-at .ensures))
@@ -44,9 +32,6 @@ loop-less c = omega (arith, pad-fits _ _ (sym (c .enum-told3 .given .1) ∙ c .b
 
 loop-again : tie.Need-loop-again Inv-loop μ-loop
 loop-again c = let asked = c .before .before in turn-pad _ _ _ (asked .before .loop .inv) (sym (c .enum-told3 .given .1) ∙ asked .here-at .ensures)
-
-enum-known-here : tie.Need-enum-known-here Inv-loop μ-loop
-enum-known-here c = search needs
 
 seen-requires : tie.Need-seen-requires Inv-loop μ-loop
 seen-requires c κs = let told = c .before in omega (arith, opt-fits _ _ _ _ (sym (told .here .given .1) ∙ told .before .before .here-at .ensures))
@@ -70,16 +55,16 @@ scan-options-spec =
     Inv-loop
     μ-loop
     loop-holds
-    here-at-requires
-    enum-told
+    (λ c κs. search needs)
+    (λ c. search needs)
     returns
-    enum-told-2
+    (λ c. search needs)
     returns-2
-    enum-told-3
+    (λ c. search needs)
     add-at
     loop-less
     loop-again
-    enum-known-here
+    (λ c. search needs)
     seen-requires
     add-at-2
     loop-less-2
