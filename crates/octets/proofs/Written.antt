@@ -176,3 +176,8 @@ copied-part at k new part old h e p =
 pub written-front : (new old : List ℕ) → written 0 new old ≡ new ++ drop (length new) old
 unfolding written
 written-front new old = ap (λ (n : ℕ). new ++ drop n old) (zero-add (length new))
+
+-- the three parts
+pub written-parts : (at : ℕ) (new old : List ℕ) → written at new old ≡ take at old ++ (new ++ drop (at + length new) old)
+unfolding written
+written-parts at new old = refl
