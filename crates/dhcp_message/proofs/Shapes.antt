@@ -25,8 +25,9 @@ use Rattle.dhcp_message.specs.declared.scan.Places.{Places}
 use Rattle.dhcp_message.specs.declared.scan.Shape.{Shape}
 use Rattle.dhcp_message.specs.declared.scan.Shape.the-variants.{Refused as SRefused, Passed as SPassed}
 use Rattle.dhcp_message.proofs.Tokens.{once, option-none, before-none, last-none}
+use Rattle.dhcp_message.proofs.Turns.{head-start}
 use Rattle.dhcp_message.proofs.Found.{place, size, lastCode, resume, scan-is, place-once, size-once, code-once}
-use Rattle.dhcp_message.proofs.Passing.{shape-in, checks-short, checks-long, checks-cookie, checks-options}
+use Rattle.dhcp_message.proofs.Passing.{byTests, by-tests, shape-in, checks-short, checks-long, checks-cookie, checks-options}
 
 -- ---- checks 5 to 7
 
@@ -90,14 +91,8 @@ module _ (ts : List Token) (rest : List ℕ) where
       (cond z (SPassed places₀)
       (cond w (SRefused RelayInformation) (cond (eqb (lastCode 0 ts) 82) (SPassed places₁) (SRefused RelayInformation)))))
 
-  abbrev byTokens : Bool → Bool → Bool → Bool → Shape
-  byTokens x y w l =
-      shapeIn
-      (cond x (stopped NoAuthentication)
-      (cond y (stopped RepeatedAuthentication) (cond w (stopped RelayInformation) (cond l (passed ts rest) (stopped RelayInformation)))))
-
   found-by : (x y z w l : Bool) → eqb (count 90 ts) 0 ≡ x → ltb 1 (count 90 ts) ≡ y → eqb (count 82 ts) 0 ≡ z → ltb 1 (count 82 ts) ≡ w
-      → isLast 82 ts ≡ l → byPass x y z w ≡ byTokens x y w l
+      → isLast 82 ts ≡ l → byPass x y z w ≡ shapeIn (byTests ts rest x y w l)
   found-by true y z w l hx hy hz hw hl = refl
   found-by false true z w l hx hy hz hw hl = refl
   found-by false false true true l hx hy hz hw hl = absurd (omega (arith, eqb-true (count 82 ts) 0 hz, ltb-true 1 (count 82 ts) hw))
@@ -121,8 +116,9 @@ module _ (ts : List Token) (rest : List ℕ) where
       by false e = refl
 
   found-tokens : shapeFound (resume emptyTally 240 ts) (240 + length (encode ts)) ≡ shapeIn (checkedTokens ts rest)
-  unfolding shapeFound checkedTokens
-  found-tokens = rw (zero-add (count 90 ts), zero-add (count 82 ts)) (found-by _ _ _ _ _ refl refl refl refl refl)
+  unfolding shapeFound
+  found-tokens =
+      rw (zero-add (count 90 ts), zero-add (count 82 ts)) (found-by _ _ _ _ _ refl refl refl refl refl) ∙ ap shapeIn (sym (by-tests ts rest))
 
 shape-scan : (p : Parsed) → shapeScan (scanParsed emptyTally 240 p) ≡ shapeIn (checkedParsed p)
 shape-scan cut = refl
@@ -144,8 +140,7 @@ module _ (m : List ℕ) where
 
       module _ (t : k ≡ true) where
         shape-go : shapeScan (scanOf m) ≡ shapeOf m
-        unfolding scanOf
-        shape-go = shape-scan (decode (drop 240 m)) ∙ sym (shape-in m ∙ ap shapeIn (checks-options m h₀ h₁ (sym ek ∙ t)))
+        shape-go = ap shapeScan (sym (head-start m .0)) ∙ shape-scan (decode (drop 240 m)) ∙ sym (shape-in m ∙ ap shapeIn (checks-options m h₀ h₁ (sym ek ∙ t)))
 
         pub shape-cut : SCut ≡ scanOf m → SRefused BrokenOptions ≡ shapeOf m
         shape-cut e = ap shapeScan e ∙ shape-go
