@@ -10,7 +10,8 @@ use lib.Seq.{length-take-le, take-at, drop-at}
 use lib.Dec.{leb, eqb}
 use borrow.Author.Tests.{le-leb, ne-eqb, leb-true, leb-false, eqb-true, eqb-false}
 use Rattle.octets.specs.Bytes.{Bytes}
-use Rattle.dhcp_message.specs.Options.{Token, pad, opt, Parsed, cut, parsed, encode, WellFormed, Reads, body, option, code, lead, withToken, step, decodeAt, decode, RoundTrips}
+use Rattle.dhcp_message.specs.Options.{Token, pad, opt, Parsed, cut, parsed, encode, WellFormed, Reads}
+use Rattle.dhcp_message.specs.Options.{body, option, code, lead, withToken, step, decodeAt, decode, RoundTrips}
 use Rattle.octets.proofs.Elements.{bytes-right}
 
 -- bytes passed over are dropped

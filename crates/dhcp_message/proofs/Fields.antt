@@ -1,5 +1,5 @@
 -- The 28 bytes of option 90 that a seal writes, counter, id and MAC: inside its body, and in the part that is lent to the writers.
-use mathlib.Core.Path.{_≡_, refl, sym, ap, ap₂, _∙_}
+use mathlib.Core.Path.{_≡_, sym, ap, ap₂, _∙_}
 use mathlib.Core.Logic.{_≢_}
 use Prim.Native.Nat.{ℕ, _+_, _^_, _≤_, _<_}
 use native.Mathlib.Nat.{add-zero, zero-add}
@@ -11,7 +11,7 @@ use lib.Seq.{length-take-le, take-at, drop-at, drop-append-add, drop-append-le}
 use borrow.Author.Tests.{eq-eqb, ne-eqb}
 use Rattle.octets.specs.Bytes.{Bytes, written, zeros, starts}
 use Rattle.octets.specs.Numbers.{be, bigAt}
-use Rattle.octets.proofs.Written.{length-written, written-over, written-join, written-part, written-same, drop-written}
+use Rattle.octets.proofs.Written.{length-written, written-over, written-join, written-part, written-same, drop-written, written-parts}
 use Rattle.octets.proofs.Starts.{starts-append}
 use Rattle.octets.proofs.Elements.{bytes-append}
 use Rattle.octets.proofs.HighFirst.{be-length, bytes-be, big-be, big-behind, big-append}
@@ -42,8 +42,7 @@ module _ (b new : List ℕ) (b-size : length b ≡ 31) (size : length new ≡ 28
   ahead-size = omega (arith, length-take-le 3 b (omega arith))
 
   opened : option ≡ ahead ++ (new ++ behind)
-  unfolding written
-  opened = refl
+  opened = ap (λ (x : List ℕ). 90 ∷ length body′ ∷ x) (written-parts 3 new b)
 
   -- a number among the new bytes
   number-new : (at n : ℕ) → at + n ≤ 28 → bigAt option (5 + at) n ≡ bigAt new at n
@@ -61,10 +60,10 @@ module _ (b new : List ℕ) (b-size : length b ≡ 31) (size : length new ≡ 28
       ∙ take-at (drop 12 new) behind 16 n
 
   method-new : starts delayed b ≡ true → starts delayed body′ ≡ true
-  unfolding written
   method-new h =
       let l : length delayed ≤ length (take 3 b) = omega (arith, length-take-le 3 b (omega arith)) in
-      starts-append delayed (take 3 b) (new ++ behind) l ∙ sym (starts-append delayed (take 3 b) (drop 3 b) l)
+      ap (starts delayed) (written-parts 3 new b) ∙ starts-append delayed (take 3 b) (new ++ behind) l
+      ∙ sym (starts-append delayed (take 3 b) (drop 3 b) l)
       ∙ ap (starts delayed) (take-append-drop 3 b) ∙ h
 
   pub said-new : starts delayed b ≡ true → saidBy option ≡ says (bigAt new 0 8) (bigAt new 8 4) (drop 12 new)

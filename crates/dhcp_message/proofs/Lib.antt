@@ -1,7 +1,9 @@
 pub mod Decoding
 pub mod Tokens
-mod Scanning
+mod Turns
+mod Found
 pub mod Passing
+mod Shapes
 pub mod Forms
 pub mod FullForms
 mod Headers

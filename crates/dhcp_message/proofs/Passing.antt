@@ -8,14 +8,14 @@ use mathlib.Core.List.{List, _∷_, _++_, append-assoc}
 use lib.ListN.{length, take, drop, getD, length-append, length-drop, take-append-drop}
 use lib.Seq.{length-take-le, take-at, drop-at, drop-append-le}
 use lib.Dec.{ltb, eqb}
-use borrow.Author.Tests.{le-ltb, ne-eqb, eqb-false, ltb-false}
+use borrow.Author.Tests.{lt-ltb, le-ltb, ne-eqb, eqb-false, ltb-false}
 use Rattle.refusal.specs.declared.Refusal.the-variants.{MessageSize, WrongCookie, NoAuthentication, RepeatedAuthentication, RelayInformation}
 use Rattle.dhcp_message.specs.Layout.{magicCookie}
 use Rattle.octets.specs.Bytes.{starts}
 use Rattle.dhcp_message.specs.Options.{Token, Parsed, cut, parsed, encode, decode}
 use Rattle.dhcp_message.specs.Message.{count, optionOf, tokensBefore, offsetOf, isLast}
 use Rattle.dhcp_message.specs.Message.{Checked, stopped, passed, checkedTokens, checkedParsed, checkedOf, Passed, Passes27, authIn, authOptionOf}
-use Rattle.dhcp_message.specs.Said.{saidBy, saidIn, saidOf, placesOf, formSaid, formIn, formOf}
+use Rattle.dhcp_message.specs.Said.{saidBy, saidIn, saidOf, idOf, named, placesOf, formSaid, formIn, formOf}
 use Rattle.dhcp_message.specs.Image.{without, macZero, headZero, imageIn, imageOf}
 use Rattle.dhcp_message.specs.Scan.{shapeIn, shapeOf}
 use Rattle.octets.proofs.Starts.{starts-append}
@@ -31,6 +31,17 @@ pub record Passing (m : List ℕ) (ts : List Token) (rest : List ℕ) : Type 0 w
   pub most-82 : count 82 ts ≤ 1
   pub last-82 : isLast 82 ts ≡ true
 
+-- 5 to 7 by their tests
+abbrev pub byTests : List Token → List ℕ → Bool → Bool → Bool → Bool → Checked
+byTests ts rest x y z l =
+    cond x (stopped NoAuthentication)
+    (cond y (stopped RepeatedAuthentication) (cond z (stopped RelayInformation) (cond l (passed ts rest) (stopped RelayInformation))))
+
+pub by-tests : (ts : List Token) (rest : List ℕ)
+    → checkedTokens ts rest ≡ byTests ts rest (eqb (count 90 ts) 0) (ltb 1 (count 90 ts)) (ltb 1 (count 82 ts)) (isLast 82 ts)
+unfolding checkedTokens
+by-tests ts rest = refl
+
 abbrev Good : List ℕ → Checked → Type 0
 Good m (stopped r) = Unit {0}
 Good m (passed ts rest) = Passing m ts rest
@@ -39,9 +50,7 @@ module _ (m : List ℕ) where
   good-tokens : 241 ≤ length m → length m ≤ 1472 → starts magicCookie (drop 236 m) ≡ true
       → (ts : List Token) (rest : List ℕ) → decode (drop 240 m) ≡ parsed ts rest
       → (x y z l : Bool) → eqb (count 90 ts) 0 ≡ x → ltb 1 (count 90 ts) ≡ y → ltb 1 (count 82 ts) ≡ z → isLast 82 ts ≡ l
-      → Good m
-      (cond x (stopped NoAuthentication)
-      (cond y (stopped RepeatedAuthentication) (cond z (stopped RelayInformation) (cond l (passed ts rest) (stopped RelayInformation)))))
+      → Good m (byTests ts rest x y z l)
   good-tokens a b k ts rest e true y z l hx hy hz hl = tt
   good-tokens a b k ts rest e false true z l hx hy hz hl = tt
   good-tokens a b k ts rest e false false true l hx hy hz hl = tt
@@ -58,9 +67,8 @@ module _ (m : List ℕ) where
 
   good-parsed : 241 ≤ length m → length m ≤ 1472 → starts magicCookie (drop 236 m) ≡ true → (p : Parsed) → decode (drop 240 m) ≡ p
       → Good m (checkedParsed p)
-  unfolding checkedTokens
   good-parsed a b k cut e = tt
-  good-parsed a b k (parsed ts rest) e = good-tokens a b k ts rest e _ _ _ _ refl refl refl refl
+  good-parsed a b k (parsed ts rest) e = subst (Good m) (sym (by-tests ts rest)) (good-tokens a b k ts rest e _ _ _ _ refl refl refl refl)
 
   good-sizes : (x y k : Bool) → ltb (length m) 241 ≡ x → ltb 1472 (length m) ≡ y → starts magicCookie (drop 236 m) ≡ k
       → Good m (cond x (stopped MessageSize) (cond y (stopped MessageSize) (cond k (checkedParsed (decode (drop 240 m))) (stopped WrongCookie))))
@@ -76,12 +84,31 @@ module _ (m : List ℕ) where
   pub passing : (ts : List Token) (rest : List ℕ) → checkedOf m ≡ passed ts rest → Passing m ts rest
   passing ts rest e = subst (Good m) e good
 
+  -- the checks in turn
+  pub checks-short : length m < 241 → checkedOf m ≡ stopped MessageSize
+  unfolding checkedOf
+  checks-short h = rw (lt-ltb _ _ h)
+
+  module _ (h₀ : 241 ≤ length m) where
+    pub checks-long : 1472 < length m → checkedOf m ≡ stopped MessageSize
+    unfolding checkedOf
+    checks-long h = rw (le-ltb _ _ h₀, lt-ltb _ _ h)
+
+    module _ (h₁ : length m ≤ 1472) where
+      pub checks-cookie : starts magicCookie (drop 236 m) ≡ false → checkedOf m ≡ stopped WrongCookie
+      unfolding checkedOf
+      checks-cookie k = rw (le-ltb _ _ h₀, le-ltb _ _ h₁, k)
+
+      pub checks-options : starts magicCookie (drop 236 m) ≡ true → checkedOf m ≡ checkedParsed (decode (drop 240 m))
+      unfolding checkedOf
+      checks-options k = rw (le-ltb _ _ h₀, le-ltb _ _ h₁, k)
+
   pub checks : {ts : List Token} {rest : List ℕ} → Passing m ts rest → checkedOf m ≡ passed ts rest
-  unfolding checkedOf checkedTokens
-  checks {ts} p =
+  checks {ts} {rest} p =
       let a : count 90 ts ≢ 0 = λ e. omega (arith, p .one-90) in
       let b : count 90 ts ≤ 1 = omega (arith, p .one-90) in
-      rw (le-ltb _ _ (p .long), le-ltb _ _ (p .short), p .magic, p .reads, ne-eqb _ _ a, le-ltb _ _ b, le-ltb _ _ (p .most-82), p .last-82)
+      checks-options (p .long) (p .short) (p .magic) ∙ ap checkedParsed (p .reads) ∙ by-tests ts rest
+      ∙ rw (ne-eqb _ _ a, le-ltb _ _ b, le-ltb _ _ (p .most-82), p .last-82)
 
   pub passing-27 : {ts : List Token} {rest : List ℕ} → Passing m ts rest → Passes27 m
   passing-27 p = subst Passed (sym (checks p)) tt
@@ -112,6 +139,10 @@ module _ (m : List ℕ) where
   pub said-in : saidOf m ≡ saidIn (checkedOf m)
   unfolding saidOf
   said-in = refl
+
+  pub named-in : named m ≡ idOf (saidOf m)
+  unfolding named
+  named-in = refl
 
 -- ---- a message put together
 

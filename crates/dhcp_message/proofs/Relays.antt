@@ -11,14 +11,14 @@ use Rattle.octets.proofs.Elements.{bytes-append, bytes-left, bytes-right, bytes
 use Rattle.dhcp_message.specs.Layout.{magicCookie}
 use Rattle.dhcp_message.specs.Options.{Token, opt, encode, Reads}
 use Rattle.dhcp_message.specs.Message.{count, optionOf, Passes27}
-use Rattle.dhcp_message.specs.Said.{saidBy, saidOf, idOf, named}
+use Rattle.dhcp_message.specs.Said.{saidBy, saidOf, idOf}
 use Rattle.dhcp_message.specs.Image.{macZero, headWith, headZero, imageOf}
 use Rattle.dhcp_message.specs.Relay.{RelayChange, kept, added, replaced, removed, Permitted, Relayed, unchanged, changed}
 use Rattle.dhcp_message.specs.Relay.{Kept, RelayKeeps, AnyHeader, WhereFits, RelayMay}
 use Rattle.dhcp_message.proofs.Decoding.{decode-reads, reads-decode}
 use Rattle.dhcp_message.proofs.Tokens.{encode-append, count-without, option-without}
 use Rattle.dhcp_message.proofs.Passing.{Passing, passing, passing-27, Tokens, tokens-of, take-built, passing-built}
-use Rattle.dhcp_message.proofs.Passing.{header-size, header-magic, codes, whole, said-passed, auth-passed, image-passed}
+use Rattle.dhcp_message.proofs.Passing.{header-size, header-magic, codes, whole, named-in, said-passed, auth-passed, image-passed}
 use Rattle.dhcp_message.proofs.Headers.{head-length, head-behind, head-over, head-bytes}
 use Rattle.dhcp_message.proofs.Changes.{Changed, changes}
 
@@ -160,12 +160,11 @@ module _ {m n : List ℕ} (r : Permitted m n) where
       (bytes-append (encode us) _ (change .bytes-kept (bytes-left (encode ts) _ t)) (bytes-right (encode ts) (255 ∷ r .rest) t)))
 
   relay-once : Kept m n
-  unfolding named
   relay-once = record {
     still-passes = λ h. passing-27 n after;
     option = auth-passed after ∙ option-kept ∙ sym (auth-passed before);
     said = said-kept;
-    name = ap idOf said-kept;
+    name = named-in n ∙ ap idOf said-kept ∙ sym (named-in m);
     image = image-kept;
     bytes = bytes-after;
   }

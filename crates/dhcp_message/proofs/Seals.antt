@@ -25,7 +25,7 @@ use Rattle.dhcp_message.specs.declared.Form.the-variants.{Refused, Full}
 use Rattle.dhcp_message.proofs.Decoding.{Codes, codes-append, codes-left, codes-right}
 use Rattle.dhcp_message.proofs.Tokens.{encode-append, count-append, option-behind, before-behind, last-behind, option-there, before-there}
 use Rattle.dhcp_message.proofs.Tokens.{without-append, zero-append, written-body}
-use Rattle.dhcp_message.proofs.Passing.{Passing, said-in, form-in, passing-27, take-built, passing-built, header-size, header-magic, codes}
+use Rattle.dhcp_message.proofs.Passing.{Passing, said-in, named-in, form-in, passing-27, take-built, passing-built, header-size, header-magic, codes}
 use Rattle.dhcp_message.proofs.Passing.{form-passed, said-passed, image-passed, around, front-size, option-is}
 use Rattle.dhcp_message.proofs.FullForms.{Fully, fully, option, s, at-is, cut-is, gap-is, counter-is, id-is, body-long, at-late, option-inside}
 use Rattle.dhcp_message.proofs.FullForms.{from-at, counter-there, id-there, said-there}
@@ -199,8 +199,7 @@ said-form m = by (formOf m) refl
     by (Full a) e = said-there (fully m a e)
 
 named-form : (m : List ℕ) → named m ≡ formNames (formOf m)
-unfolding named
-named-form m = ap idOf (said-form m) ∙ by (formOf m)
+named-form m = named-in m ∙ ap idOf (said-form m) ∙ by (formOf m)
   where
     by : (f : Form) → idOf (formSays m f) ≡ formNames f
     by (Refused r) = refl

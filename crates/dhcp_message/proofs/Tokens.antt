@@ -23,7 +23,8 @@ once (suc n) h l = omega arith
 pub encode-append : (p q : List Token) → encode (p ++ q) ≡ encode p ++ encode q
 encode-append [] q = refl
 encode-append (pad ∷ p) q = ap (λ (l : List ℕ). 0 ∷ l) (encode-append p q)
-encode-append (opt e b ∷ p) q = ap (λ (l : List ℕ). e ∷ length b ∷ l) (ap (λ (l : List ℕ). b ++ l) (encode-append p q) ∙ sym (append-assoc b (encode p) (encode q)))
+encode-append (opt e b ∷ p) q =
+    ap (λ (l : List ℕ). e ∷ length b ∷ l) (ap (λ (l : List ℕ). b ++ l) (encode-append p q) ∙ sym (append-assoc b (encode p) (encode q)))
 
 pub nil-right : (ts : List Token) → ts ++ [] ≡ ts
 nil-right [] = refl
@@ -140,7 +141,8 @@ module _ (c : ℕ) where
   without-append (pad ∷ p) q = ap (λ (us : List Token). pad ∷ us) (without-append p q)
   without-append (opt e b ∷ p) q = by (without-append p q) (eqb e c)
     where
-      by : without c (p ++ q) ≡ without c p ++ without c q → (x : Bool) → cond x (without c (p ++ q)) (opt e b ∷ without c (p ++ q)) ≡ cond x (without c p) (opt e b ∷ without c p) ++ without c q
+      by : without c (p ++ q) ≡ without c p ++ without c q → (x : Bool)
+          → cond x (without c (p ++ q)) (opt e b ∷ without c (p ++ q)) ≡ cond x (without c p) (opt e b ∷ without c p) ++ without c q
       by ih true = ih
       by ih false = ap (λ (us : List Token). opt e b ∷ us) ih
 
@@ -153,7 +155,8 @@ module _ (c : ℕ) where
   count-without d n (pad ∷ ts) = count-without d n ts
   count-without d n (opt e b ∷ ts) = by (count-without d n ts) (eqb e c) refl
     where
-      by : count d (without c ts) ≡ count d ts → (x : Bool) → eqb e c ≡ x → count d (cond x (without c ts) (opt e b ∷ without c ts)) ≡ cond (eqb e d) 1 0 + count d ts
+      by : count d (without c ts) ≡ count d ts → (x : Bool) → eqb e c ≡ x
+          → count d (cond x (without c ts) (opt e b ∷ without c ts)) ≡ cond (eqb e d) 1 0 + count d ts
       by ih true h =
           let k : e ≢ d = λ q. n (sym q ∙ eqb-true e c h) in
           rw (ne-eqb _ _ k) (ih ∙ sym (zero-add (count d ts)))
@@ -164,7 +167,8 @@ module _ (c : ℕ) where
   option-without d n (pad ∷ ts) = option-without d n ts
   option-without d n (opt e b ∷ ts) = by (option-without d n ts) (eqb e c) refl
     where
-      by : optionOf d (without c ts) ≡ optionOf d ts → (x : Bool) → eqb e c ≡ x → optionOf d (cond x (without c ts) (opt e b ∷ without c ts)) ≡ cond (eqb e d) (e ∷ length b ∷ b) (optionOf d ts)
+      by : optionOf d (without c ts) ≡ optionOf d ts → (x : Bool) → eqb e c ≡ x
+          → optionOf d (cond x (without c ts) (opt e b ∷ without c ts)) ≡ cond (eqb e d) (e ∷ length b ∷ b) (optionOf d ts)
       by ih true h =
           let k : e ≢ d = λ q. n (sym q ∙ eqb-true e c h) in
           rw (ne-eqb _ _ k) ih

@@ -1,12 +1,14 @@
--- The covered image of a message whose option 90 is in full form (RFC 3118, section 3; document 01, 'The covered image'): hops, giaddr and
--- the MAC zero, the whole of option 82 taken out, everything else in its order, the bytes after End with it.
+-- The covered image of a message whose option 90 is in full form (RFC 3118, section 3; docs/RULES.md, 'The covered image'): hops, giaddr and
+-- the MAC zero, the whole of option 82 taken out, everything else in its order, the bytes after End with it. A relay agent sets hops and giaddr, and
+-- adds option 82 and takes it out again, so sender and receiver don't see the same ones: the MAC has to leave them out (RFC 3118, section 3).
 -- Then what `cover` writes for any offsets and any room.
 use Prim.Native.Nat.{ℕ, _+_, _-_}
 use mathlib.Core.Bool.{Bool, cond, _&&_}
 use mathlib.Core.List.{List, [], _∷_, _++_}
 use lib.ListN.{length, take, drop}
 use lib.Dec.{leb, eqb}
-use Rattle.dhcp_message.specs.Layout.{headerSize, hopsAt, hopsSize, giaddrAt, giaddrSize, endCode, relayCode, authCode, optionHead, macAt, macSize, fullSize}
+use Rattle.dhcp_message.specs.Layout.{headerSize, hopsAt, hopsSize, giaddrAt, giaddrSize, endCode, relayCode, authCode, optionHead}
+use Rattle.dhcp_message.specs.Layout.{macAt, macSize, fullSize}
 use Rattle.octets.specs.Bytes.{written, zeros}
 use Rattle.dhcp_message.specs.Options.{Token, pad, opt, Parsed, cut, parsed, encode, decode}
 use Rattle.dhcp_message.specs.declared.Auth.{Auth}
@@ -44,7 +46,10 @@ imageOf m = imageIn (take headerSize m) (decode (drop headerSize m))
 
 -- whether offsets lie in a message of a length, and what is left without the stretch has place for the fields and fits a room
 unfoldable pub coverFits : ℕ → ℕ → Auth → Bool
-coverFits size room a = leb (a .cut) size && (leb (a .gap) (size - a .cut) && (leb (size - a .gap) room && (leb fullSize (size - a .gap) && leb (a .at) (size - a .gap - fullSize))))
+coverFits size room a =
+    leb (a .cut) size
+    && (leb (a .gap) (size - a .cut)
+    && (leb (size - a .gap) room && (leb fullSize (size - a .gap) && leb (a .at) (size - a .gap - fullSize))))
 
 -- the message without the stretch, hops, giaddr and the 16 bytes of the MAC zero
 unfoldable pub coverBytes : List ℕ → Auth → List ℕ

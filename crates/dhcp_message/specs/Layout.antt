@@ -1,5 +1,7 @@
 -- Where things stand in a DHCP message, and how large they are. RFC 2131 decides the header, RFC 2132 and 3046 the options,
--- RFC 3118 option 90, document 01 ('The message') the limits. Every number is named here and nowhere else.
+-- RFC 3118 option 90, docs/RULES.md, 'The message' the limits.
+-- Contracts and definitions have these numbers from here, the code has them from src/layout.rt. Proofs write them as numbers, which are the same by
+-- computation; and Bench pins each by what it does to bytes, written as numbers on purpose.
 use Prim.Native.Nat.{ℕ, _+_, _-_}
 use mathlib.Core.List.{List, [], _∷_}
 
@@ -45,14 +47,17 @@ authCode = 90
 abbrev pub endCode : ℕ
 endCode = 255
 
--- what an option takes besides its body: code and length
+-- a pad is its code alone; what another option takes besides its body is code and length
+abbrev pub padSize : ℕ
+padSize = 1
+
 abbrev pub optionHead : ℕ
 optionHead = 2
 
 abbrev pub bodyMost : ℕ
 bodyMost = 255
 
--- option 90 by offset from its code (RFC 3118, section 2): code 0, length 1, protocol 2, algorithm 3, replay method 4,
+-- option 90 by offset from its code (RFC 3118, sections 2 and 5.2): code 0, length 1, protocol 2, algorithm 3, replay method 4,
 -- counter 5 to 12, secret id 13 to 16, MAC 17 to 32
 abbrev pub lengthAt : ℕ
 lengthAt = 1

@@ -1,4 +1,4 @@
--- What a message is (document 01, 'The message'): its header, its option tokens and the bytes after End; and checks 2 to 7 on them.
+-- What a message is (docs/RULES.md, 'The message'): its header, its option tokens and the bytes after End; and checks 2 to 7 on them.
 -- Option 52 is an option like any other, sname and file are not read, and options of one code are not joined.
 use Prim.Native.Nat.{ℕ, _+_}
 use mathlib.Core.Bool.{Bool, true, false, cond}

@@ -1,5 +1,7 @@
--- Options as tokens (RFC 2132, section 2; document 01, 'The message'): a pad, or an option with its code and body. `encode` gives the
+-- Options as tokens (RFC 2132, section 2; docs/RULES.md, 'The message'): a pad, or an option with its code and body. `encode` gives the
 -- bytes of tokens; `decode` reads tokens up to the first End. That each undoes the other is stated here as `RoundTrips`.
+-- A pad is a token, though it says nothing: the MAC covers it, and offsets count it. Reading stops at End, since it ends what the options say
+-- (RFC 2132, section 3.2); the bytes behind it are the rest.
 use Prim.Native.Nat.{ℕ, zero, suc, _≤_, _<_}
 use mathlib.Core.Path.{_≡_}
 use mathlib.Core.Bool.{Bool, true, false}
@@ -79,4 +81,5 @@ decode xs = decodeAt 0 xs
 -- what is written is read again, and bytes are read as tokens and a rest exactly where they are those tokens, End and that rest
 pub record RoundTrips : Type 0 where
   pub written-read : (tokens : List Token) (rest : List ℕ) → WellFormed tokens → decode (encode tokens ++ (endCode ∷ rest)) ≡ parsed tokens rest
-  pub read-written : (options : List ℕ) (tokens : List Token) (rest : List ℕ) → Bytes options → (decode options ≡ parsed tokens rest) ↔ Reads options tokens rest
+  pub read-written : (options : List ℕ) (tokens : List Token) (rest : List ℕ) → Bytes options
+      → (decode options ≡ parsed tokens rest) ↔ Reads options tokens rest

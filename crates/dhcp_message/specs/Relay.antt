@@ -1,5 +1,5 @@
--- A permitted relay change (document 01; RFC 3118, section 3, names what a relay agent may alter), any number of them, what they keep, and that
--- all that document 01 lets a relay do is permitted.
+-- A permitted relay change (docs/RULES.md, 'Relay changes'; RFC 3118, section 3, names what a relay agent may alter), any number of them, what they
+-- keep, and that all that the rules let a relay do is permitted.
 use Prim.Native.Nat.{ℕ, _+_, _≤_}
 use mathlib.Core.Path.{_≡_}
 use mathlib.Core.List.{List, [], _∷_, _++_}
@@ -19,8 +19,10 @@ RelayBody body = (length body ≤ bodyMost) × Bytes body
 pub data RelayChange (before after : List Token) : Type 0 where
   kept : after ≡ before → RelayChange before after
   added : (body : List ℕ) → RelayBody body → count relayCode before ≡ 0 → after ≡ before ++ (opt relayCode body ∷ []) → RelayChange before after
-  replaced : (front : List Token) (old body : List ℕ) (back : List Token) → RelayBody body → before ≡ front ++ (opt relayCode old ∷ back) → after ≡ front ++ (opt relayCode body ∷ back) → RelayChange before after
-  removed : (front : List Token) (old : List ℕ) (back : List Token) → before ≡ front ++ (opt relayCode old ∷ back) → after ≡ front ++ back → RelayChange before after
+  replaced : (front : List Token) (old body : List ℕ) (back : List Token) → RelayBody body
+      → before ≡ front ++ (opt relayCode old ∷ back) → after ≡ front ++ (opt relayCode body ∷ back) → RelayChange before after
+  removed : (front : List Token) (old : List ℕ) (back : List Token)
+      → before ≡ front ++ (opt relayCode old ∷ back) → after ≡ front ++ back → RelayChange before after
 
 -- a change of m to n
 pub record Permitted (m n : List ℕ) : Type 0 where

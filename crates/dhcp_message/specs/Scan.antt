@@ -6,7 +6,7 @@ use mathlib.Core.List.{List, [], _∷_}
 use lib.ListN.{length, drop}
 use lib.Dec.{ltb, eqb}
 use Rattle.refusal.specs.declared.Refusal.the-variants.{NoAuthentication, RepeatedAuthentication, RelayInformation}
-use Rattle.dhcp_message.specs.Layout.{headerSize, relayCode, authCode, optionHead}
+use Rattle.dhcp_message.specs.Layout.{headerSize, relayCode, authCode, padSize, optionHead}
 use Rattle.dhcp_message.specs.Options.{Token, pad, opt, Parsed, cut, parsed, Lead, nothing, end, token, lead, decode}
 use Rattle.dhcp_message.specs.Message.{Checked, stopped, passed, checkedOf}
 use Rattle.dhcp_message.specs.Said.{placesOf}
@@ -49,7 +49,7 @@ seenOf f c at size = cond (eqb c authCode) (seen90 f at) (cond (eqb c relayCode)
 -- what is found after tokens that start at an offset, and where they end
 abbrev pub scanFrom : Tally → ℕ → List Token → Scan
 scanFrom f at [] = SWhole f at
-scanFrom f at (pad ∷ ts) = scanFrom f (at + 1) ts
+scanFrom f at (pad ∷ ts) = scanFrom f (at + padSize) ts
 scanFrom f at (opt c body ∷ ts) = scanFrom (seenOf f c at (optionHead + length body)) (at + (optionHead + length body)) ts
 
 abbrev pub scanParsed : Tally → ℕ → Parsed → Scan

@@ -1,4 +1,4 @@
--- What a seal writes (document 01, 'Check, key and seal'): counter, secret id and MAC over the 28 bytes of option 90 that hold them; what the
+-- What a seal writes (docs/RULES.md, 'Seal'): counter, secret id and MAC over the 28 bytes of option 90 that hold them; what the
 -- two writers leave in a part of a message; and what holds of a message that was written so.
 use Prim.Native.Nat.{ℕ, _+_, _-_, _^_, _<_, _≤_}
 use mathlib.Core.Path.{_≡_}
@@ -53,15 +53,18 @@ pub record Sealed (m : List ℕ) (a : Auth) (new : List ℕ) : Type 0 where
   pub form : formOf (sealedWith a new m) ≡ Full (withFields a (bigAt new 0 counterSize) (bigAt new counterSize secretIdSize))
   pub said : saidOf (sealedWith a new m) ≡ says (bigAt new 0 counterSize) (bigAt new counterSize secretIdSize) (drop fieldsSize new)
   pub size : length (sealedWith a new m) ≡ length m
-  pub image : (other : List ℕ) → length other ≡ sealSize → take fieldsSize new ≡ take fieldsSize other → imageOf (sealedWith a new m) ≡ imageOf (sealedWith a other m)
+  pub image : (other : List ℕ) → length other ≡ sealSize → take fieldsSize new ≡ take fieldsSize other
+      → imageOf (sealedWith a new m) ≡ imageOf (sealedWith a other m)
   pub again : (other : List ℕ) → length other ≡ sealSize → sealedWith a other (sealedWith a new m) ≡ sealedWith a other m
 
 -- what the crate above goes by
 pub record SealLaws : Type 0 where
   pub full : (m : List ℕ) (a : Auth) → formOf m ≡ Full a → FullForm m a
   -- `cover` writes the image, and goes by the offsets alone
-  pub covers : (m : List ℕ) (a : Auth) (out : List ℕ) → formOf m ≡ Full a → length m ≤ length out → (coverSize m a out ≡ length (imageOf m)) × (coverLeft m a out ≡ imageOf m ++ drop (length (imageOf m)) out)
-  pub covers-offsets : (m : List ℕ) (a : Auth) (counter id : ℕ) (out : List ℕ) → (coverSize m (withFields a counter id) out ≡ coverSize m a out) × (coverLeft m (withFields a counter id) out ≡ coverLeft m a out)
+  pub covers : (m : List ℕ) (a : Auth) (out : List ℕ) → formOf m ≡ Full a → length m ≤ length out
+      → (coverSize m a out ≡ length (imageOf m)) × (coverLeft m a out ≡ imageOf m ++ drop (length (imageOf m)) out)
+  pub covers-offsets : (m : List ℕ) (a : Auth) (counter id : ℕ) (out : List ℕ)
+      → (coverSize m (withFields a counter id) out ≡ coverSize m a out) × (coverLeft m (withFields a counter id) out ≡ coverLeft m a out)
   pub seals : (m : List ℕ) (a : Auth) (new : List ℕ) → formOf m ≡ Full a → length new ≡ sealSize → Sealed m a new
   -- counter, id and MAC take the 28 bytes, and whatever MAC stands there, the image is the same
   pub seal-size : (counter id : ℕ) (mac : List ℕ) → length mac ≡ macSize → length (fields counter id ++ mac) ≡ sealSize
@@ -71,8 +74,12 @@ pub record SealLaws : Type 0 where
   pub id-read : (counter id : ℕ) (mac : List ℕ) → id < 2 ^ 32 → bigAt (fields counter id ++ mac) counterSize secretIdSize ≡ id
   pub mac-read : (counter id : ℕ) (mac : List ℕ) → drop fieldsSize (fields counter id ++ mac) ≡ mac
   -- the part of the 28 bytes lent to each writer in turn: nothing else of the message changes
-  pub fields-lent : (m : List ℕ) (at size counter id : ℕ) → size ≡ sealSize → at + size ≤ length m → take at m ++ (fieldsPut (take size (drop at m)) counter id ++ drop size (drop at m)) ≡ written at (fields counter id) m
-  pub mac-lent : (m : List ℕ) (at size : ℕ) (mac : List ℕ) → size ≡ sealSize → length mac ≡ macSize → at + size ≤ length m → take at m ++ (macPut (take size (drop at m)) mac ++ drop size (drop at m)) ≡ written (at + fieldsSize) mac m
-  pub fields-alone : (m : List ℕ) (at counter id : ℕ) → at + sealSize ≤ length m → written at (fields counter id) m ≡ written at (fields counter id ++ take macSize (drop (at + fieldsSize) m)) m
+  pub fields-lent : (m : List ℕ) (at size counter id : ℕ) → size ≡ sealSize → at + size ≤ length m
+      → take at m ++ (fieldsPut (take size (drop at m)) counter id ++ drop size (drop at m)) ≡ written at (fields counter id) m
+  pub mac-lent : (m : List ℕ) (at size : ℕ) (mac : List ℕ) → size ≡ sealSize → length mac ≡ macSize → at + size ≤ length m
+      → take at m ++ (macPut (take size (drop at m)) mac ++ drop size (drop at m)) ≡ written (at + fieldsSize) mac m
+  pub fields-alone : (m : List ℕ) (at counter id : ℕ) → at + sealSize ≤ length m
+      → written at (fields counter id) m ≡ written at (fields counter id ++ take macSize (drop (at + fieldsSize) m)) m
   pub bytes-kept : (m : List ℕ) (at counter id : ℕ) (mac : List ℕ) → Bytes mac → Bytes m → Bytes (written at (fields counter id ++ mac) m)
-  pub mac-behind : (m : List ℕ) (at counter id : ℕ) (mac : List ℕ) → at + sealSize ≤ length m → written (at + fieldsSize) mac (written at (fields counter id) m) ≡ written at (fields counter id ++ mac) m
+  pub mac-behind : (m : List ℕ) (at counter id : ℕ) (mac : List ℕ) → at + sealSize ≤ length m
+      → written (at + fieldsSize) mac (written at (fields counter id) m) ≡ written at (fields counter id ++ mac) m

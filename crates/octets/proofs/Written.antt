@@ -183,3 +183,8 @@ written-last at new old h =
 pub written-front : (new old : List ℕ) → written 0 new old ≡ new ++ drop (length new) old
 unfolding written
 written-front new old = ap (λ (n : ℕ). new ++ drop n old) (zero-add (length new))
+
+-- the three parts
+pub written-parts : (at : ℕ) (new old : List ℕ) → written at new old ≡ take at old ++ (new ++ drop (at + length new) old)
+unfolding written
+written-parts at new old = refl

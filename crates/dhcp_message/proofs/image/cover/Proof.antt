@@ -16,9 +16,6 @@ fits c = fits-given _ _ _ _ (c .before .covers .ensures) (c .if1 .left)
 parts : (c : tie.Else1) → let a = c .before .before .before .before .args in PartSizes (a .message .now) (a .auth)
 parts c = let a = c .before .before .before .before .args in part-sizes (a .message .now) (now (a .out)) (a .auth) (fits c)
 
-covers-requires : tie.Need-covers-requires
-covers-requires c κs = search needs
-
 returns : tie.Need-returns
 returns c = covered-not _ _ _ (fits-not _ _ _ _ (c .before .covers .ensures) (c .if1 .taken))
 
@@ -39,9 +36,6 @@ sub-copy c = omega (arith, fits (c .before .before .before .before .before .befo
 part-copy-start : tie.Need-part-copy-start
 part-copy-start c = omega (arith, fits (c .before .before .before .before .before .before))
 
-part-copy-end : tie.Need-part-copy-end
-part-copy-end c = search needs
-
 copy-requires-2 : tie.Need-copy-requires-2
 copy-requires-2 c κs =
     let first = c .before .before .before .before in
@@ -60,9 +54,6 @@ sub-result c =
     let first = second .before .before .before .before .before in
     omega (arith, fits (first .before .before .before .before))
 
-same-length : tie.Need-same-length
-same-length c = search needs
-
 returns-2 : tie.Need-returns-2
 returns-2 c =
     let blanked = c .before .before .before in
@@ -76,16 +67,16 @@ pub cover-spec : {M : Type 1} → statement M
 cover-spec =
     tie.close
     (tie.spec
-    covers-requires
+    (λ c κs. search needs)
     returns
     add-next
     slice-aggregate-copy
     copy-requires
     sub-copy
     part-copy-start
-    part-copy-end
+    (λ c. search needs)
     copy-requires-2
     blank-requires
     sub-result
-    same-length
+    (λ c. search needs)
     returns-2)

@@ -10,9 +10,6 @@ returns c = fits-cut _ _ _ (search needs)
 returns-2 : tie.Need-returns-2
 returns-2 c = fits-gap _ _ _ (search needs) (search needs)
 
-sub-left : tie.Need-sub-left
-sub-left c = search needs
-
 returns-3 : tie.Need-returns-3
 returns-3 c = fits-short _ _ _ (search needs) (search needs) (search needs)
 
@@ -23,4 +20,4 @@ returns-5 : tie.Need-returns-5
 returns-5 c = fits-at _ _ _ (search needs) (search needs) (search needs) (search needs)
 
 pub covers-spec : {M : Type 1} → statement M
-covers-spec = tie.close (tie.spec returns returns-2 sub-left returns-3 returns-4 returns-5)
+covers-spec = tie.close (tie.spec returns returns-2 (λ c. search needs) returns-3 returns-4 returns-5)

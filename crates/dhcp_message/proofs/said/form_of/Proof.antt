@@ -6,15 +6,6 @@ use borrow.Author.Needs.{needs}
 use Rattle.dhcp_message.proofs.said.form_of.Statement.{statement}
 use Rattle.dhcp_message.proofs.said.form_of.Tie as tie
 
-shape-of-requires : tie.Need-shape-of-requires
-shape-of-requires c κs = search needs
-
-enum-known-shape : tie.Need-enum-known-shape
-enum-known-shape c = search needs
-
-enum-known-shape-2 : tie.Need-enum-known-shape-2
-enum-known-shape-2 c = search needs
-
 form-at-requires : tie.Need-form-at-requires
 form-at-requires c κs =
     let told = c .before in
@@ -37,9 +28,9 @@ pub form-of-spec : {M : Type 1} → statement M
 form-of-spec =
     tie.close
     (tie.spec
-    shape-of-requires
-    enum-known-shape
-    enum-known-shape-2
+    (λ c κs. search needs)
+    (λ c. search needs)
+    (λ c. search needs)
     form-at-requires
     returns
     returns-2)

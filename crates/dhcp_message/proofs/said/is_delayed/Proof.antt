@@ -1,4 +1,4 @@
--- `dhcp_message::is_delayed` meets its contract: byte by byte (proofs/Lists.antt, `starts-hit` and `starts-miss`).
+-- `dhcp_message::is_delayed` meets its contract: byte by byte (octets' proofs/Starts.antt).
 use Prim.Native.Nat.{_+_}
 use native.Mathlib.Omega.{arith}
 use denote.Ref.{now}
@@ -8,52 +8,34 @@ use borrow.Author.Needs.{needs}
 use Rattle.dhcp_message.proofs.said.is_delayed.Statement.{statement}
 use Rattle.dhcp_message.proofs.said.is_delayed.Tie as tie
 
-add-if1 : tie.Need-add-if1
-add-if1 c = search needs
-
-shared-slice-read-if1 : tie.Need-shared-slice-read-if1
-shared-slice-read-if1 c = search needs
-
 returns : tie.Need-returns
-returns c =
-    let m = now (c .before .before .args .message) in
-    let o = c .before .before .args .at in
-    starts-miss m (o + 2) 1 (search needs) (1 ∷ 0 ∷ []) (search needs)
-
-add-if2 : tie.Need-add-if2
-add-if2 c = search needs
-
-shared-slice-read-if2 : tie.Need-shared-slice-read-if2
-shared-slice-read-if2 c = search needs
+returns c = let a = c .before .before .args in starts-miss (now (a .message)) (a .at + 2) 1 (search needs) (1 ∷ 0 ∷ []) (search needs)
 
 returns-2 : tie.Need-returns-2
 returns-2 c =
-    let m = now (c .before .before .before .before .args .message) in
-    let o = c .before .before .before .before .args .at in
-    starts-hit m (o + 2) 1 (search needs) (1 ∷ 0 ∷ []) (o + 3) _ (omega arith) (search needs) (starts-miss m (o + 3) 1 (search needs) (0 ∷ []) (search needs))
-
-add-result : tie.Need-add-result
-add-result c = search needs
-
-shared-slice-read-result : tie.Need-shared-slice-read-result
-shared-slice-read-result c = search needs
+    let a = c .before .before .before .before .args in
+    let m = now (a .message) in
+    starts-hit m (a .at + 2) 1 (search needs) (1 ∷ 0 ∷ []) (a .at + 3) _ (omega arith) (search needs)
+    (starts-miss m (a .at + 3) 1 (search needs) (0 ∷ []) (search needs))
 
 returns-3 : tie.Need-returns-3
 returns-3 c =
-    let m = now (c .before .before .before .before .before .args .message) in
-    let o = c .before .before .before .before .before .args .at in
-    starts-hit m (o + 2) 1 (search needs) (1 ∷ 0 ∷ []) (o + 3) _ (omega arith) (search needs) (starts-hit m (o + 3) 1 (search needs) (0 ∷ []) (o + 4) _ (omega arith) (search needs) (starts-last m (o + 4) 0 (search needs)))
+    let a = c .before .before .before .before .before .args in
+    let m = now (a .message) in
+    starts-hit m (a .at + 2) 1 (search needs) (1 ∷ 0 ∷ []) (a .at + 3) _ (omega arith) (search needs)
+    (starts-hit m (a .at + 3) 1 (search needs) (0 ∷ []) (a .at + 4) _ (omega arith) (search needs)
+    (starts-last m (a .at + 4) 0 (search needs)))
 
 pub is-delayed-spec : {M : Type 1} → statement M
 is-delayed-spec =
     tie.close
     (tie.spec
-    add-if1
-    shared-slice-read-if1
+    (λ c. search needs)
+    (λ c. search needs)
     returns
-    add-if2
-    shared-slice-read-if2
+    (λ c. search needs)
+    (λ c. search needs)
     returns-2
-    add-result
-    shared-slice-read-result
+    (λ c. search needs)
+    (λ c. search needs)
     returns-3)

@@ -8,15 +8,6 @@ use Rattle.dhcp_message.proofs.seal.put_fields.Tie as tie
 returns : tie.Need-returns
 returns c = let a = c .before .before .args in fields-left (now (a .part)) (a .counter) (a .id) (search needs)
 
-put-big-requires : tie.Need-put-big-requires
-put-big-requires c κs = search needs
-
-put-big-requires-2 : tie.Need-put-big-requires-2
-put-big-requires-2 c κs = search needs
-
-same-length : tie.Need-same-length
-same-length c = search needs
-
 returns-2 : tie.Need-returns-2
 returns-2 c =
     let second = c .before .before in
@@ -26,4 +17,4 @@ returns-2 c =
 
 pub put-fields-spec : {M : Type 1} → statement M
 put-fields-spec =
-    tie.close (tie.spec returns put-big-requires put-big-requires-2 same-length returns-2)
+    tie.close (tie.spec returns (λ c κs. search needs) (λ c κs. search needs) (λ c. search needs) returns-2)

@@ -9,15 +9,6 @@ use Rattle.dhcp_message.proofs.seal.put_mac.Tie as tie
 returns : tie.Need-returns
 returns c = mac-left (now (c .before .before .args .part)) (c .before .before .args .t2) (search needs)
 
-slice-aggregate-copy : tie.Need-slice-aggregate-copy
-slice-aggregate-copy c = search needs
-
-copy-requires : tie.Need-copy-requires
-copy-requires c κs = search needs
-
-same-length : tie.Need-same-length
-same-length c = search needs
-
 returns-2 : tie.Need-returns-2
 returns-2 c =
     let a = c .before .before .before .before .before .before .before in
@@ -25,4 +16,4 @@ returns-2 c =
 
 pub put-mac-spec : {M : Type 1} → statement M
 put-mac-spec =
-    tie.close (tie.spec returns slice-aggregate-copy copy-requires same-length returns-2)
+    tie.close (tie.spec returns (λ c. search needs) (λ c κs. search needs) (λ c. search needs) returns-2)
