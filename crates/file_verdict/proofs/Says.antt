@@ -76,7 +76,7 @@ module _ (card : List ℕ) (rows : List Row) (c : CardOf card rows) where
       let r = gives emptyBook empty-sized card rows card-rows rows-room in
       let k = gives-book emptyBook empty-sized card rows card-rows rows-room in
       line-rows (some card) message (length rows) (card-read emptyBook (some card) card-small r refl)
-      ∙ ap (λ (b : Book). messageLine b message) (sym (book-read emptyBook (some card) card-small) ∙ k)
+      ∙ ap (λ (b : Book). messageLine b message) (sym (book-read emptyBook (some card) card-small refl) ∙ k)
 
   by-check : (message : List ℕ) → length message ≤ fileMost → (v : Verdict) → checkOf (loaded emptyBook rows) message ≡ v
       → lineFor (some card) (some message) ≡ verdictLine v

@@ -1,5 +1,4 @@
 -- `file_verdict::load_card` meets its contract: the card may not be judged, or it is handed on to reading (proofs/Contents.antt, Stages.antt).
-use mathlib.Core.Path.{_∙_}
 use Rattle.key_book.specs.Book.{Book, bookOf}
 use Rattle.file_verdict.proofs.Contents.{judged-none, judged-long, judged-some}
 use Rattle.file_verdict.proofs.Stages.{card-none, card-read, book-read}
@@ -29,7 +28,7 @@ returns-2 c =
     let j = judged-some (s .args .room .now) _ (w .before .before .within-limit .ensures) (w .card .given .1) in
     let a = c .before .answer .given .1 in
     let e = d .card-read .ensures in
-    (card-read (lent s) _ j a (e .0), rw a at (e .1) ∙ book-read (lent s) _ j)
+    (card-read (lent s) _ j a (e .0), book-read (lent s) _ j (rw a at (e .1)))
 
 returns-3 : tie.Need-returns-3
 returns-3 c =
@@ -39,7 +38,7 @@ returns-3 c =
     let j = judged-some (s .args .room .now) _ (w .before .before .within-limit .ensures) (w .card .given .1) in
     let a = c .before .answer2 .given .1 in
     let e = d .card-read .ensures in
-    (card-read (lent s) _ j a (e .0), rw a at (e .1) ∙ book-read (lent s) _ j)
+    (card-read (lent s) _ j a (e .0), book-read (lent s) _ j (rw a at (e .1)))
 
 pub load-card-spec : {M : Type 1} → statement M
 load-card-spec =

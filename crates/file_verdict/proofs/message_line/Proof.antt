@@ -1,5 +1,4 @@
 -- `file_verdict::message_line` meets its contract: the message may not be judged, or it is handed on to the check (proofs/Contents.antt, Stages.antt).
-use mathlib.Core.Path.{_∙_}
 use Rattle.key_book.specs.Book.{Book, bookOf}
 use Rattle.file_verdict.proofs.Contents.{judged-none, judged-long, judged-some}
 use Rattle.file_verdict.proofs.Stages.{message-none, message-checked, counter-stored}
@@ -28,7 +27,7 @@ returns-2 c =
     let s = w .before .before .before .before .before .before .before .before .before in
     let j = judged-some (s .args .room .now) _ (w .before .before .within-limit .ensures) (w .message .given .1) in
     let e = d .check .ensures in
-    (message-checked (lent s) _ j (c .before .verdict .given .1) (e .0), e .1 ∙ counter-stored (lent s) _ j)
+    (message-checked (lent s) _ j (c .before .verdict .given .1) (e .0), counter-stored (lent s) _ j (e .1))
 
 returns-3 : tie.Need-returns-3
 returns-3 c =
@@ -37,7 +36,7 @@ returns-3 c =
     let s = w .before .before .before .before .before .before .before .before .before in
     let j = judged-some (s .args .room .now) _ (w .before .before .within-limit .ensures) (w .message .given .1) in
     let e = d .check .ensures in
-    (message-checked (lent s) _ j (c .before .verdict2 .given .1) (e .0), e .1 ∙ counter-stored (lent s) _ j)
+    (message-checked (lent s) _ j (c .before .verdict2 .given .1) (e .0), counter-stored (lent s) _ j (e .1))
 
 pub message-line-spec : {M : Type 1} → statement M
 message-line-spec =
