@@ -1,4 +1,4 @@
--- `file_verdict::load_card` meets its contract: the card may not be judged, or it is handed on to reading (proofs/Contents.antt, Stages.antt).
+-- `file_verdict::load_card` meets its contract: the card may not be judged, or it is handed on to reading (proofs/Stages.antt).
 use mathlib.Core.Path.{sym}
 use lib.Seq.{length-take-le}
 use Rattle.key_book.specs.Book.{Book, bookOf}

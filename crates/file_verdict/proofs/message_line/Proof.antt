@@ -1,4 +1,4 @@
--- `file_verdict::message_line` meets its contract: the message may not be judged, or it is handed on to the check (proofs/Contents.antt, Stages.antt).
+-- `file_verdict::message_line` meets its contract: the message may not be judged, or it is handed on to the check (proofs/Stages.antt).
 use mathlib.Core.Path.{sym}
 use lib.Seq.{length-take-le}
 use Rattle.key_book.specs.Book.{Book, bookOf}
