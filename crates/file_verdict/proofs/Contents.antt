@@ -1,35 +1,28 @@
--- The content of a file: what may be judged of it (`limited` agrees with `readable`), and what is then at the front of the room.
+-- The content of a file: what a room holds of it (`fileIn`), and what may be judged of it (`readable`). The only file that unfolds these two.
 use Prim.Native.Nat.{ℕ, _≤_, _<_}
-use mathlib.Core.Path.{_≡_, refl, sym, _∙_}
-use mathlib.Core.Bool.{Bool, true, false, cond}
+use mathlib.Core.Path.{_≡_, refl, ap, _∙_}
 use mathlib.Core.List.{List}
-use mathlib.Core.Option.{Option, none, some}
+use mathlib.Core.Option.{none, some}
 use native.Mathlib.Omega.{arith}
-use borrow.Author.Tests.{le-leb, lt-leb, leb-true, leb-false}
-use lib.Dec.{leb}
+use borrow.Author.Tests.{le-leb, lt-leb}
 use lib.ListN.{length, take}
 use lib.Seq.{length-take-le}
-use Rattle.file_verdict.specs.Files.{fileMost, fileIn, readable, limited}
-use Rattle.file_verdict.specs.declared.Content.{Content}
+use Rattle.file_verdict.specs.Files.{fileMost, fileIn, readable, MayBeJudged}
 use Rattle.file_verdict.specs.declared.Content.the-variants.{Unreadable, Size}
 
--- the ends of `limited`
-pub limited-none : (room : ℕ) → Unreadable ≡ limited room Unreadable
-unfolding limited
-limited-none room = refl
+-- what a room holds
+pub no-file : (room : List ℕ) → fileIn room Unreadable ≡ none
+unfolding fileIn
+no-file room = refl
 
-module _ (room n : ℕ) where
-  pub limited-no-room : room < n → Unreadable ≡ limited room (Size n)
-  unfolding limited
-  limited-no-room h = rw (lt-leb n room h)
+module _ (room : List ℕ) (n : ℕ) where
+  pub held : n ≤ length room → fileIn room (Size n) ≡ some (take n room)
+  unfolding fileIn
+  held h = rw (le-leb n (length room) h)
 
-  pub limited-too-large : n ≤ room → fileMost < n → Unreadable ≡ limited room (Size n)
-  unfolding limited
-  limited-too-large h l = rw (le-leb n room h, lt-leb n fileMost l)
-
-  pub limited-fits : n ≤ room → n ≤ fileMost → Size n ≡ limited room (Size n)
-  unfolding limited
-  limited-fits h l = rw (le-leb n room h, le-leb n fileMost l)
+  pub not-held : length room < n → fileIn room (Size n) ≡ none
+  unfolding fileIn
+  not-held h = rw (lt-leb n (length room) h)
 
 -- a file's bytes by their number
 pub readable-none : readable none ≡ none
@@ -44,41 +37,17 @@ pub readable-too-large : (s : List ℕ) → fileMost < length s → readable (so
 unfolding readable
 readable-too-large s h = rw (lt-leb (length s) fileMost h)
 
--- what may be judged of a file, by the content that is left of it
-abbrev pub Judged : List ℕ → Option (List ℕ) → Content → Type 0
-Judged room s Unreadable = s ≡ none
-Judged room s (Size n) = (n ≤ length room) × (s ≡ some (take n room))
+-- the ends of `within_limit`
+pub judged-none : (room : List ℕ) → MayBeJudged room Unreadable Unreadable
+judged-none room = ap readable (no-file room) ∙ readable-none
 
-pub limited-judged : (room : List ℕ) (content : Content) → Judged room (readable (fileIn room content)) (limited (length room) content)
-unfolding limited fileIn readable
-limited-judged room Unreadable = refl
-limited-judged room (Size n) = on (leb n (length room)) refl (leb n fileMost) refl
-  where
-    on : (t : Bool) → leb n (length room) ≡ t → (u : Bool) → leb n fileMost ≡ u
-        → Judged room (readable (cond t (some (take n room)) none)) (cond t (cond u (Size n) Unreadable) Unreadable)
-    on false e u f = refl
-    on true e true f =
-        let l = leb-true n (length room) e in
-        let m = leb-true n fileMost f in
-        let k = length-take-le n room l in
-        (l, readable-fits (take n room) (omega arith))
-    on true e false f =
-        let l = leb-true n (length room) e in
-        let m = leb-false n fileMost f in
-        let k = length-take-le n room l in
-        readable-too-large (take n room) (omega arith)
+module _ (room : List ℕ) (n : ℕ) where
+  pub judged-no-room : length room < n → MayBeJudged room (Size n) Unreadable
+  judged-no-room h = ap readable (not-held room n h) ∙ readable-none
 
--- the same of the content that `within_limit` answered
-module _ (room : List ℕ) (content : Content) {left : Content} (e : left ≡ limited (length room) content) where
-  pub judged-none : left ≡ Unreadable → readable (fileIn room content) ≡ none
-  judged-none u = let j = limited-judged room content in rw (sym e ∙ u) at j
+  module _ (h : n ≤ length room) where
+    pub judged-too-large : fileMost < n → MayBeJudged room (Size n) Unreadable
+    judged-too-large l = let k = length-take-le n room h in ap readable (held room n h) ∙ readable-too-large (take n room) (omega arith)
 
-  module _ {n : ℕ} (u : left ≡ Size n) where
-    judged-size : (n ≤ length room) × (readable (fileIn room content) ≡ some (take n room))
-    judged-size = let j = limited-judged room content in rw (sym e ∙ u) at j
-
-    pub judged-long : n ≡ length (take n room)
-    judged-long = sym (length-take-le n room (judged-size .0))
-
-    pub judged-some : readable (fileIn room content) ≡ some (take n room)
-    judged-some = judged-size .1
+    pub judged-fits : n ≤ fileMost → MayBeJudged room (Size n) (Size n)
+    judged-fits l = let k = length-take-le n room h in (h, ap readable (held room n h) ∙ readable-fits (take n room) (omega arith))

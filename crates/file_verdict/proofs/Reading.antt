@@ -39,17 +39,17 @@ module _ (have room : ℕ) where
   read-too-much (negsuc n) t p h = refl
 
 -- one turn of a loop that reads, where there was room left: what has ended lies within the room, and what goes on has more, and no more than the room
-abbrev pub Turn : ℕ → ℕ → Progress → Type 0
-Turn have room (Ended content) = EndSeen room content
-Turn have room (More n) = (have < n) × (n ≤ room)
+abbrev pub ReadTurn : ℕ → ℕ → Progress → Type 0
+ReadTurn have room (Ended content) = EndSeen room content
+ReadTurn have room (More n) = (have < n) × (n ≤ room)
 
-pub read-turn : (have room : ℕ) (got : ℤ) → have < room → Turn have room (afterRead have room got)
+pub read-turn : (have room : ℕ) (got : ℤ) → have < room → ReadTurn have room (afterRead have room got)
 unfolding afterRead
 read-turn have room (negsuc k) h = tt
 read-turn have room (pos n) h = on (eqb n 0) refl (leb (have + n) room) refl
   where
     on : (t : Bool) → eqb n 0 ≡ t → (u : Bool) → leb (have + n) room ≡ u
-        → Turn have room (cond t (Ended (Size have)) (cond u (More (have + n)) (Ended Unreadable)))
+        → ReadTurn have room (cond t (Ended (Size have)) (cond u (More (have + n)) (Ended Unreadable)))
     on true e u f = h
     on false e false f = tt
     on false e true f =

@@ -5,8 +5,7 @@ use mathlib.Core.Path.{_≡_, refl, sym, ap, _∙_}
 use mathlib.Core.List.{List}
 use mathlib.Core.Option.{Option, none, some}
 use native.Mathlib.Omega.{arith}
-use borrow.Author.Tests.{le-leb, lt-leb}
-use lib.IntN.{pos}
+use lib.IntN.{pos, negsuc}
 use lib.ListN.{length, length-replicate}
 use Rattle.refusal.specs.declared.Refusal.the-variants.{MalformedCard}
 use Rattle.key_book.specs.Limits.{rowsMost, slotSize}
@@ -22,23 +21,22 @@ use Rattle.card_laws.proofs.Answers.{refuses, gives, gives-book}
 use Rattle.verdict_line.specs.declared.Line.{Line}
 use Rattle.verdict_line.specs.declared.Line.the-variants.{Refused, Unreadable}
 use Rattle.file_verdict.specs.declared.Loaded.the-variants.{Stopped, Rows}
-use Rattle.file_verdict.specs.Files.{fileMost, fileIn, readable, afterRead}
+use Rattle.file_verdict.specs.Files.{fileMost, readable}
 use Rattle.file_verdict.specs.Files.{loadedOf, bookLoaded, messageLine, verdictLine, emptyBook, lineAfter, lineFor}
 use Rattle.file_verdict.specs.Laws.{ContentSays, CardOf, LineSays}
-use Rattle.file_verdict.proofs.Contents.{readable-none, readable-fits, readable-too-large}
-use Rattle.file_verdict.proofs.Reading.{read-more, read-too-much}
+use Rattle.file_verdict.proofs.Contents.{no-file, held, not-held, readable-none, readable-fits, readable-too-large}
+use Rattle.file_verdict.proofs.Reading.{read-failed, read-end, read-more, read-too-much}
 use Rattle.file_verdict.proofs.Stages.{card-none, card-read, book-read, message-none, message-checked}
 
 pub content-says : ContentSays
-unfolding afterRead fileIn
 content-says = record {
-  failed = λ have room k. refl;
-  at-end = λ have room. refl;
+  failed = λ have room k. sym (read-failed have room (negsuc k) refl);
+  at-end = λ have room. sym (read-end have room (pos 0) tt refl);
   goes-on = λ have room n p h. sym (read-more have room (pos n) tt p h);
   too-many = λ have room n p h. sym (read-too-much have room (pos n) tt p h);
-  no-file = λ room. refl;
-  held = λ room n h. rw (le-leb n (length room) h);
-  not-held = λ room n h. rw (lt-leb n (length room) h);
+  no-file = no-file;
+  held = held;
+  not-held = not-held;
 }
 
 -- the line by what is loaded
@@ -76,7 +74,7 @@ module _ (card : List ℕ) (rows : List Row) (c : CardOf card rows) where
       let r = gives emptyBook empty-sized card rows card-rows rows-room in
       let k = gives-book emptyBook empty-sized card rows card-rows rows-room in
       line-rows (some card) message (length rows) (card-read emptyBook (some card) card-small r refl)
-      ∙ ap (λ (b : Book). messageLine b message) (sym (book-read emptyBook (some card) card-small) ∙ k)
+      ∙ ap (λ (b : Book). messageLine b message) (sym (book-read emptyBook (some card) card-small refl) ∙ k)
 
   by-check : (message : List ℕ) → length message ≤ fileMost → (v : Verdict) → checkOf (loaded emptyBook rows) message ≡ v
       → lineFor (some card) (some message) ≡ verdictLine v

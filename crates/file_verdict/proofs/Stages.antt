@@ -30,14 +30,14 @@ module _ (b : Book) (file : Option (List ℕ)) where
     unfolding loadedOf
     card-read m a = rw e (ap loadedBy (sym m ∙ a))
 
-    pub book-read : readBook b s ≡ bookLoaded b file
+    pub book-read : {after : Book} → after ≡ readBook b s → after ≡ bookLoaded b file
     unfolding bookLoaded
-    book-read = rw e
+    book-read a = rw e a
 
     pub message-checked : {verdict met : Verdict} → verdict ≡ met → verdict ≡ checkOf b s → verdictLine met ≡ messageLine b file
     unfolding messageLine
     message-checked m v = rw e (ap verdictLine (sym m ∙ v))
 
-    pub counter-stored : receivedAfter (checkOf b s) (b .received) ≡ receivedLeft b file
+    pub counter-stored : {after : List ℕ} → after ≡ receivedAfter (checkOf b s) (b .received) → after ≡ receivedLeft b file
     unfolding receivedLeft
-    counter-stored = rw e
+    counter-stored a = rw e a

@@ -5,7 +5,7 @@
 // The book is lent as ids, key lengths, key store, received counters, sent counters and row count, in this order.
 ghost use mathlib.Core.Path.{_≡_};
 ghost use Rattle.key_book.specs.Book.{bookOf};
-ghost use Rattle.file_verdict.specs.Files.{fileIn, limited, loadedOf, rowsLoaded, bookLoaded, messageLine, receivedLeft, afterRead};
+ghost use Rattle.file_verdict.specs.Files.{fileIn, MayBeJudged, loadedOf, rowsLoaded, bookLoaded, messageLine, receivedLeft, afterRead};
 use book_card::ReadAnswer;
 use delayed_auth::Verdict;
 use verdict_line::Line;
@@ -57,14 +57,14 @@ pub fn after_read(got: isize, have: usize, room: usize) -> Progress
     Progress::Ended(Content::Unreadable)
 }
 
-// The same content where a room of so many bytes can hold it and it is not above the limit.
-fn within_limit(content: Content, room: usize) -> Content
-    ensures { λ r. ⌜ r ≡ limited room content ⌝ }
+// The same content where the room can hold it and it is not above the limit: so many bytes at the room's front may be judged.
+fn within_limit(content: Content, room: &[u8]) -> Content
+    ensures { λ r. ⌜ MayBeJudged (now (room .entry)) content r ⌝ }
 {
     let Content::Size(size) = content else {
         return Content::Unreadable;
     };
-    if room < size {
+    if room.len() < size {
         return Content::Unreadable;
     }
     if FILE_MOST < size {
@@ -93,7 +93,7 @@ pub fn load_card(
         ≡ bookLoaded b (fileIn (now (room .entry)) content))
         ⌝ }
 {
-    let card = within_limit(content, room.len());
+    let card = within_limit(content, room);
     let Content::Size(size) = card else {
         return Loaded::Stopped(Line::Unreadable);
     };
@@ -124,7 +124,7 @@ pub fn message_line(
         now (received .exit) ≡ receivedLeft b (fileIn (now (room .entry)) content))
         ⌝ }
 {
-    let message = within_limit(content, room.len());
+    let message = within_limit(content, room);
     let Content::Size(size) = message else {
         return Line::Unreadable;
     };

@@ -6,7 +6,7 @@ use Rattle.file_verdict.specs.declared.Content.{Content}
 use Rattle.file_verdict.specs.declared.Progress.{Progress}
 use Rattle.file_verdict.specs.declared.Progress.the-variants.{Ended, More}
 use Rattle.file_verdict.specs.Files.{afterRead, EndSeen}
-use Rattle.file_verdict.proofs.Reading.{Turn, read-turn}
+use Rattle.file_verdict.proofs.Reading.{ReadTurn, read-turn}
 use Rattle.judge.specs.Program.{ReadMeans}
 
 -- the room has kept its length
@@ -14,7 +14,7 @@ pub read-meant : {have room : ℕ} (now : ℕ) (got : ℤ) {progress : Progress}
 read-meant now got long e = record { got = got; means = rw (← long) e }
 
 module _ {have now room : ℕ} {progress : Progress} (meant : ReadMeans have now progress) (long : now ≡ room) (h : have < room) where
-  turn : Turn have room progress
+  turn : ReadTurn have room progress
   turn = rw (meant .means, long) (read-turn have room (meant .got) h)
 
   pub turn-ended : {content : Content} → progress ≡ Ended content → EndSeen room content

@@ -2,8 +2,8 @@
 use mathlib.Core.Path.{_≡_, refl, ap, _∙_}
 use mathlib.Core.Bool.{Bool, true, false, cond}
 use mathlib.Core.List.{List, [], _∷_, _++_}
-use Prim.Native.Nat.{ℕ, zero, suc, _+_, _-_, _*_, _/_, _%_, _^_, _≤_, _<_}
-use native.Mathlib.Nat.{pow-zero, pow-suc, div-lt-iff-lt-mul, le-div-iff-mul-le}
+use Prim.Native.Nat.{ℕ, zero, suc, _+_, _-_, _/_, _%_, _^_, _≤_, _<_}
+use native.Mathlib.Nat.{pow-zero, pow-suc, div-lt-iff-lt-mul}
 use native.Mathlib.Omega.{arith}
 use borrow.Author.Tests.{lt-ltb, le-ltb, ltb-true, ltb-false}
 use lib.Dec.{ltb}
@@ -40,50 +40,32 @@ length-one n h = ap length (decimal-one n h)
 pub length-more : (n : ℕ) → 10 ≤ n → length (decimal n) ≡ length (decimal (n / 10)) + 1
 length-more n h = ap length (decimal-more n h) ∙ length-append (decimal (n / 10)) (digit (n % 10) ∷ [])
 
--- a number below a power of ten has no more digits than its exponent
-length-below : (k n : ℕ) → n < 10 ^ suc k → length (decimal n) ≤ suc k
-length-below zero n h =
-    let p = pow-suc 10 0 in
-    let z = pow-zero 10 in
-    let l = length-one n (omega arith) in
-    omega arith
-length-below (suc k) n h = on (ltb n 10) refl (length-below k (n / 10))
+-- a number below a power of ten has all its digits in as many as the exponent
+digits-are : (k n : ℕ) → n < 10 ^ suc k → decimal n ≡ digitsTo (suc k) n
+unfolding digitsTo
+digits-are zero n h = let l : n < 10 = omega (arith, pow-suc 10 0, pow-zero 10) in rw (lt-ltb n 10 l) (decimal-one n l)
+digits-are (suc k) n h =
+    let l = div-lt-iff-lt-mul {k = 10} {x = n} {y = 10 ^ suc k} (omega arith) .1 (rw pow-suc at h) in
+    on (ltb n 10) refl (digits-are k (n / 10) l)
   where
-    on : (t : Bool) → ltb n 10 ≡ t → (n / 10 < 10 ^ suc k → length (decimal (n / 10)) ≤ suc k) → length (decimal n) ≤ suc (suc k)
-    on true e go = let l = length-one n (ltb-true n 10 e) in omega arith
-    on false e go =
-        let l = length-more n (ltb-false n 10 e) in
-        let r = go (div-lt-iff-lt-mul {k = 10} {x = n} {y = 10 ^ suc k} (omega arith) .1 (rw pow-suc at h)) in
-        omega arith
+    on : (t : Bool) → ltb n 10 ≡ t → decimal (n / 10) ≡ digitsTo (suc k) (n / 10)
+        → decimal n ≡ cond t (digit n ∷ []) (digitsTo (suc k) (n / 10) ++ (digit (n % 10) ∷ []))
+    on true e go = decimal-one n (ltb-true n 10 e)
+    on false e go = decimal-more n (ltb-false n 10 e) ∙ ap (λ (s : List ℕ). s ++ (digit (n % 10) ∷ [])) go
 
--- a number of 64 bits has at most twenty digits
+digits-most : (k n : ℕ) → length (digitsTo k n) ≤ k
+unfolding digitsTo
+digits-most zero n = omega arith
+digits-most (suc k) n = on (ltb n 10) (digits-most k (n / 10))
+  where
+    on : (t : Bool) → length (digitsTo k (n / 10)) ≤ k → length (cond t (digit n ∷ []) (digitsTo k (n / 10) ++ (digit (n % 10) ∷ []))) ≤ suc k
+    on true h = omega arith
+    on false h = simp length-append (omega arith)
+
+-- a number of 64 bits has at most twenty digits, and the largest has twenty
 pub length-word : (n : ℕ) → n < 2 ^ 64 → length (decimal n) ≤ 20
-length-word n h = length-below 19 n (omega arith)
+length-word n h = omega (arith, ap length (digits-are 19 n (omega arith)), digits-most 20 n)
 
--- and from a power of ten on, one more than its exponent
-one-power : (k : ℕ) → 1 ≤ 10 ^ k
-one-power zero = let z = pow-zero 10 in omega arith
-one-power (suc k) =
-    let p = pow-suc 10 k in
-    let z = one-power k in
-    omega arith
-
-length-from : (k n : ℕ) → 10 ^ k ≤ n → suc k ≤ length (decimal n)
-length-from zero n h = on (ltb n 10) refl
-  where
-    on : (t : Bool) → ltb n 10 ≡ t → 1 ≤ length (decimal n)
-    on true e = let l = length-one n (ltb-true n 10 e) in omega arith
-    on false e = let l = length-more n (ltb-false n 10 e) in omega arith
-length-from (suc k) n h =
-    let p : 10 ^ k * 10 ≤ n = rw pow-suc at h in
-    let q = length-from k (n / 10) (le-div-iff-mul-le {k = 10} {x = 10 ^ k} {y = n} (omega arith) .1 p) in
-    let z = one-power k in
-    let l = length-more n (omega arith) in
-    omega arith
-
--- the largest number of 64 bits has twenty
 pub length-largest : length (decimal (2 ^ 64 - 1)) ≡ 20
-length-largest =
-    let a = length-word (2 ^ 64 - 1) (omega arith) in
-    let b = length-from 19 (2 ^ 64 - 1) (omega arith) in
-    omega arith
+unfolding digitsTo
+length-largest = ap length (digits-are 19 (2 ^ 64 - 1) (omega arith))

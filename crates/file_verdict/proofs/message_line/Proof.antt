@@ -1,7 +1,7 @@
--- `file_verdict::message_line` meets its contract: the message may not be judged, or it is handed on to the check (proofs/Contents.antt, Stages.antt).
-use mathlib.Core.Path.{_∙_}
+-- `file_verdict::message_line` meets its contract: the message may not be judged, or it is handed on to the check (proofs/Stages.antt).
+use mathlib.Core.Path.{sym}
+use lib.Seq.{length-take-le}
 use Rattle.key_book.specs.Book.{Book, bookOf}
-use Rattle.file_verdict.proofs.Contents.{judged-none, judged-long, judged-some}
 use Rattle.file_verdict.proofs.Stages.{message-none, message-checked, counter-stored}
 use borrow.Author.Needs.{needs}
 use Rattle.file_verdict.proofs.message_line.Statement.{statement}
@@ -13,12 +13,12 @@ lent s = bookOf (s .args .ids .now) (s .args .lengths .now) (s .args .store .now
 returns : tie.Need-returns
 returns c =
     let s = c .before .before .before .before .before .before .before .before .before in
-    message-none (lent s) _ (judged-none (s .args .room .now) _ (c .before .before .within-limit .ensures) (c .enum-told .given .1))
+    message-none (lent s) _ (rw (c .enum-told .given .1) at (c .before .before .within-limit .ensures))
 
 slice-aggregate-check : tie.Need-slice-aggregate-check
 slice-aggregate-check c =
     let w = c .before .before .before in
-    judged-long _ _ (w .before .before .within-limit .ensures) (w .message .given .1)
+    sym (length-take-le _ _ (rw (w .message .given .1) at (w .before .before .within-limit .ensures) .0))
 
 -- the message's size is known at w, and its verdict at d
 returns-2 : tie.Need-returns-2
@@ -26,18 +26,18 @@ returns-2 c =
     let d = c .before .before .before .before .before in
     let w = d .before .before .before .before in
     let s = w .before .before .before .before .before .before .before .before .before in
-    let j = judged-some (s .args .room .now) _ (w .before .before .within-limit .ensures) (w .message .given .1) in
+    let j = rw (w .message .given .1) at (w .before .before .within-limit .ensures) .1 in
     let e = d .check .ensures in
-    (message-checked (lent s) _ j (c .before .verdict .given .1) (e .0), e .1 ∙ counter-stored (lent s) _ j)
+    (message-checked (lent s) _ j (c .before .verdict .given .1) (e .0), counter-stored (lent s) _ j (e .1))
 
 returns-3 : tie.Need-returns-3
 returns-3 c =
     let d = c .before .before .before .before .before in
     let w = d .before .before .before .before in
     let s = w .before .before .before .before .before .before .before .before .before in
-    let j = judged-some (s .args .room .now) _ (w .before .before .within-limit .ensures) (w .message .given .1) in
+    let j = rw (w .message .given .1) at (w .before .before .within-limit .ensures) .1 in
     let e = d .check .ensures in
-    (message-checked (lent s) _ j (c .before .verdict2 .given .1) (e .0), e .1 ∙ counter-stored (lent s) _ j)
+    (message-checked (lent s) _ j (c .before .verdict2 .given .1) (e .0), counter-stored (lent s) _ j (e .1))
 
 pub message-line-spec : {M : Type 1} → statement M
 message-line-spec =
