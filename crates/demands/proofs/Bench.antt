@@ -18,9 +18,10 @@ use Rattle.delayed_auth.specs.declared.Verdict.{Verdict}
 use Rattle.delayed_auth.specs.Check.{checkOf, verdictNumber}
 use Rattle.card_laws.specs.Examples.{bookB}
 use Rattle.card_laws.proofs.Computed.{example-1, example-2}
-use Rattle.demands.specs.Bench.{numberOnB, wrongMac, BenchTable}
+use Rattle.demands.specs.Bench.{wrongMac, BenchTable}
 use Rattle.demands.proofs.Below.{said-form}
-use Rattle.demands.proofs.Stages.{CheckCase, check-unsound, check-refused, check-unknown, check-replay, check-wrong, check-accepts, check-case, case-check}
+use Rattle.demands.proofs.Stages.{CheckCase, check-unsound, check-refused, check-unknown, check-replay, check-wrong, check-accepts}
+use Rattle.demands.proofs.Stages.{check-case, case-check}
 
 b-sound : sound bookB ≡ true
 unfolding sound sized ascending keySizes allBelow
@@ -32,18 +33,19 @@ good = sound-says bookB .0 b-sound
 -- ---- 2 to 9
 
 -- in full form the message has none of them, and the check gives another
-full-form : (m : List ℕ) (c id : ℕ) (mac : List ℕ) (n number : ℕ) → saidOf m ≡ says c id mac → 2 ≤ n → n ≤ 9 → number ≢ n → (number ≡ n) ↔ (formNumber (formOf m) ≡ n)
-full-form m c id mac n number e l h d =
+full-form : (m : List ℕ) (c id : ℕ) (mac : List ℕ) (n number : ℕ) → saidOf m ≡ says c id mac → 2 ≤ n → number ≢ n
+    → (number ≡ n) ↔ (formNumber (formOf m) ≡ n)
+full-form m c id mac n number e l d =
     let f : formNumber (formOf m) ≡ 0 = ap formNumber (said-form m (says c id mac) e .form) in
     (λ g. absurd (d g), λ g. absurd (omega arith))
 
 by-form : (m : List ℕ) (n : ℕ) → 2 ≤ n → n ≤ 9 → (v : Verdict) → CheckCase bookB m v → (verdictNumber v ≡ n) ↔ (formNumber (formOf m) ≡ n)
 by-form m n l h v (check-unsound w) = absurd (w good)
 by-form m n l h v (check-refused {r} s e) = let f = ap formNumber (said-form m (refused r) e) in (λ g. f ∙ g, λ g. sym f ∙ g)
-by-form m n l h v (check-unknown c id mac s e f) = full-form m c id mac n 10 e l h (λ g. omega arith)
-by-form m n l h v (check-replay c k mac s w g) = full-form m c (w .id) mac n 11 (w .form) l h (λ g. omega arith)
-by-form m n l h v (check-wrong c k mac s w g i) = full-form m c (w .id) mac n 12 (w .form) l h (λ g. omega arith)
-by-form m n l h v (check-accepts {k} {c} s a) = full-form m c (a .id) (a .mac) n 0 (a .form) l h (λ g. omega arith)
+by-form m n l h v (check-unknown c id mac s e f) = full-form m c id mac n 10 e l (λ g. omega arith)
+by-form m n l h v (check-replay c k mac s w g) = full-form m c (w .id) mac n 11 (w .form) l (λ g. omega arith)
+by-form m n l h v (check-wrong c k mac s w g i) = full-form m c (w .id) mac n 12 (w .form) l (λ g. omega arith)
+by-form m n l h v (check-accepts {k} {c} s a) = full-form m c (a .id) (a .mac) n 0 (a .form) l (λ g. omega arith)
 
 -- ---- example 8
 
@@ -63,6 +65,11 @@ row-7 : rowOf bookB 7 ≡ some 0
 unfolding placeFrom rowIn
 row-7 = refl
 
+number-8 : verdictNumber (checkOf bookB (wrongMac 10 7)) ≡ 11
+number-8 =
+    ap verdictNumber (case-check bookB (wrongMac 10 7) _
+    (check-replay 10 0 someMac good (record { id = 7; form = says-7; secret = row-7 }) (omega arith)))
+
 pub bench-table : BenchTable
 bench-table = record {
   example-1 = example-1;
@@ -70,6 +77,6 @@ bench-table = record {
   examples-3-to-7 = bench-examples;
   on-book-B = λ m n l h. by-form m n l h (checkOf bookB m) (check-case bookB m);
   example-8-id = ap verdictNumber (case-check bookB (wrongMac 11 8) _ (check-unknown 11 8 someMac good says-8 row-8));
-  example-8-counter = ap verdictNumber (case-check bookB (wrongMac 10 7) _ (check-replay 10 0 someMac good (record { id = 7; form = says-7; secret = row-7 }) (omega arith)));
+  example-8-counter = number-8;
   example-10 = example-10;
 }

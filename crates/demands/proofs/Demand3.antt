@@ -116,7 +116,8 @@ module _ (b₀ : Book) (sound : Sound b₀) where
           let a = bookAt b₀ run i in
           let b = bookAt b₀ run j in
           let again = replays b₀ a b m k c (ids-at run i) (ids-at run j) accepted-i (held-after (lt-at run j (check n) at-j)) in
-          answer-at walk b₀ run j (check n) at-j ∙ ap (λ (v : Verdict). some (checked v)) (check-reads b₀ b b (ids-at run j) (ids-at run j) m n q (λ id k e f. refl) ∙ again)
+          let unseen = check-reads b₀ b b (ids-at run j) (ids-at run j) m n q (λ id k e f. refl) in
+          answer-at walk b₀ run j (check n) at-j ∙ ap (λ (v : Verdict). some (checked v)) (unseen ∙ again)
 
 pub demand-3 : Demand3
 demand-3 = record {

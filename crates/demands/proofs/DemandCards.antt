@@ -93,7 +93,8 @@ module _ (b : Book) (room : List ℕ) where
   write-number = by (sound b) refl (ltb (length room) (length (cardOf (rowsOf b)))) refl
     where
       by : (t : Bool) → sound b ≡ t → (u : Bool) → ltb (length room) (length (cardOf (rowsOf b))) ≡ u
-          → Lowest (WriteApplies b room) (writeNumber (cond t (cond u (WriteRefused NoRoomForCard) (Size (length (cardOf (rowsOf b))))) (WriteRefused UnsoundBook)))
+          → Lowest (WriteApplies b room)
+          (writeNumber (cond t (cond u (WriteRefused NoRoomForCard) (Size (length (cardOf (rowsOf b))))) (WriteRefused UnsoundBook)))
       by false e u f =
           lowest (WriteApplies b room) (some UnsoundBook)
           (WriteApplies.not-sound (λ s. let t = sound-says b .1 s in never cc), nothing-first (WriteApplies b room))

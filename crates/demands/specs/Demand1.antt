@@ -1,16 +1,18 @@
--- Demand 1 (document 00; document 01, 'Numbers given back'): any bytes, any book. For each entry it is said when each of its numbers applies, in
--- the paper's words; the entry gives the lowest number that applies, 0 exactly where none does, and a refusal alters nothing lent.
+-- Demand 1 (docs/RULES.md, 'The demands' and 'Numbers'): any bytes, any book. For each entry it is said when each of its numbers applies, in the
+-- rules' words; the entry gives the lowest number that applies, 0 exactly where none does. A refusal alters nothing lent, but that a digest refused
+-- with 14 is 16 zero bytes.
 -- Nothing is asked of the book; of a message and a card only that their elements are bytes. Its one proof is proofs/Demand1.antt.
 use Prim.Native.Nat.{ℕ, _+_, _<_, _≤_}
 use mathlib.Core.Path.{_≡_}
-use mathlib.Core.Logic.{_↔_, _≢_}
+use mathlib.Core.Logic.{_≢_}
 use mathlib.Core.List.{List, []}
 use mathlib.Core.Option.{some}
 use lib.ListN.{length, getD}
 use Rattle.refusal.specs.Number.{done}
 use Rattle.refusal.specs.Lowest.{Lowest}
 use Rattle.refusal.specs.declared.Refusal.{Refusal}
-use Rattle.refusal.specs.declared.Refusal.the-variants.{UnsoundBook, UnknownSecret, Replay, WrongMac, CounterSpent, TooLong, MalformedCard, NoRoomForCard, NoRoomForRows}
+use Rattle.refusal.specs.declared.Refusal.the-variants.{UnsoundBook, UnknownSecret, Replay, WrongMac, CounterSpent, TooLong}
+use Rattle.refusal.specs.declared.Refusal.the-variants.{MalformedCard, NoRoomForCard, NoRoomForRows}
 use Rattle.md5.specs.declared.Digest.{Digest}
 use Rattle.md5.specs.Block.{blockSize}
 use Rattle.md5.specs.Entries.{digestMost, noDigest, feedOf, finishOf, md5Of}
@@ -85,7 +87,8 @@ pub record Demand1 : Type 0 where
   pub key : (b : Book) (m : List ℕ) → Bytes m → Lowest (KeyApplies b m) (keyNumber (keyedOf b m))
   pub key-empty : (b : Book) (m : List ℕ) → keyNumber (keyedOf b m) ≢ done → (keyBytes b (keyedOf b m) ≡ []) × (keyOffset (keyedOf b m) ≡ 0)
   pub seal : (b : Book) (id : ℕ) (m : List ℕ) → Bytes m → Lowest (SealApplies b id m) (outcomeNumber (sealOf b id m))
-  pub seal-keeps : (b : Book) (id : ℕ) (m : List ℕ) → outcomeNumber (sealOf b id m) ≢ done → (messageAfter (sealOf b id m) m ≡ m) × (sentAfter (sealOf b id m) (b .sent) ≡ b .sent)
+  pub seal-keeps : (b : Book) (id : ℕ) (m : List ℕ) → outcomeNumber (sealOf b id m) ≢ done
+      → (messageAfter (sealOf b id m) m ≡ m) × (sentAfter (sealOf b id m) (b .sent) ≡ b .sent)
   pub feed : (d : Digest) (piece : List ℕ) → Lowest (DigestApplies (d .total + length piece)) (feedOf d piece .number)
   pub feed-keeps : (d : Digest) (piece : List ℕ) → feedOf d piece .number ≢ done → feedOf d piece .state ≡ d
   pub finish : (d : Digest) → Lowest (DigestApplies (d .total)) (finishOf d .number)
