@@ -1,3 +1,6 @@
 pub mod Macs
+pub mod Admits
 pub mod Judging
+pub mod Naming
 pub mod Plans
+pub mod Writers

@@ -1,15 +1,18 @@
--- Laws of comparing and computing MACs.
+-- Laws of comparing and computing MACs. The only file that unfolds `sameBytes`.
 use mathlib.Core.Path.{_≡_, refl, sym, ap, _∙_}
-use mathlib.Core.Bool.{Bool, true, false, _&&_}
-use mathlib.Core.List.{List}
+use mathlib.Core.Logic.{_≢_}
+use mathlib.Core.Bool.{Bool, true, false, _&&_, and-eq-true-iff}
+use mathlib.Core.List.{List, [], _∷_, _++_}
 use Prim.Native.Nat.{ℕ, suc, _+_, _-_, _≤_, _<_}
 use native.Mathlib.Omega.{arith}
+use borrow.Author.Tests.{eq-eqb, eqb-true}
 use lib.Dec.{eqb}
-use lib.ListN.{length, getD, take, drop, drop-of-length-le}
-use lib.Seq.{drop-cons, take-at}
-use Rattle.hmac_md5.specs.Hmac.{hmac, hmacOf}
+use lib.ListN.{length, getD, take, drop, replicate, length-drop, length-replicate, drop-of-length-le}
+use lib.Seq.{drop-cons, take-at, length-take-le}
+use Rattle.hmac_md5.specs.Hmac.{hmac, hmacOf, keyMost}
 use Rattle.hmac_md5.specs.declared.Mac.{Mac}
 use Rattle.hmac_md5.proofs.Masks.{hmac-taken}
+use Rattle.dhcp_message.specs.Layout.{macAt, macSize, fullSize, messageMost}
 use Rattle.dhcp_message.specs.Said.{formOf}
 use Rattle.dhcp_message.specs.Image.{imageOf, coverSize, coverLeft}
 use Rattle.dhcp_message.specs.declared.Auth.{Auth}
@@ -38,38 +41,82 @@ pub same-end : (s : Bool) (xs ys : List ℕ) (i : ℕ) → length xs ≤ i → l
 unfolding sameBytes
 same-end s xs ys i h k = rw (drop-of-length-le xs h, drop-of-length-le ys k) (sym (and-true s))
 
--- ---- the MAC over the covered image, as `cover` writes it into a room that is large enough
+-- ---- `sameBytes` is true exactly where the lists are equal
 
-module _ (m : List ℕ) (a : Auth) (out : List ℕ) (full : formOf m ≡ Full a) (room : length m ≤ length out) where
-  pub image-size : coverSize m a out ≡ length (imageOf m)
-  image-size = seal-laws .covers m a out full room .0
+pub same-equal : (xs ys : List ℕ) → sameBytes xs ys ≡ true → xs ≡ ys
+unfolding sameBytes
+same-equal [] [] e = refl
+same-equal [] (y ∷ ys) e = absurd (let z : _≡_ {A = ℕ} 0 1 = cc in omega arith)
+same-equal (x ∷ xs) [] e = absurd (let z : _≡_ {A = ℕ} 0 1 = cc in omega arith)
+same-equal (x ∷ xs) (y ∷ ys) e =
+    let w = and-eq-true-iff (eqb x y) (sameBytes xs ys) .0 e in
+    let h = eqb-true x y (w .0) in
+    let t = same-equal xs ys (w .1) in
+    cc
 
-  pub image-short : length (imageOf m) ≤ length m
-  image-short = omega (arith, full-form m a full .image-size)
+same-itself : (xs : List ℕ) → sameBytes xs xs ≡ true
+unfolding sameBytes
+same-itself [] = refl
+same-itself (x ∷ xs) = rw (eq-eqb x x refl) (same-itself xs)
 
-  pub image-front : (size : ℕ) (left : List ℕ) → size ≡ coverSize m a out → left ≡ coverLeft m a out → take size left ≡ imageOf m
-  image-front size left e f =
-      ap (λ (n : ℕ). take n left) (e ∙ image-size)
-      ∙ ap (take (length (imageOf m))) (f ∙ seal-laws .covers m a out full room .1)
-      ∙ take-at (imageOf m) (drop (length (imageOf m)) out) (length (imageOf m)) refl
+pub equal-same : (xs ys : List ℕ) → xs ≡ ys → sameBytes xs ys ≡ true
+equal-same xs ys e = rw (← e) (same-itself xs)
 
-pub mac-right : (key m : List ℕ) (a : Auth) → formOf m ≡ Full a → length key ≤ 64 → hmacOf key (imageOf m) .mac ≡ hmac key (imageOf m)
-mac-right key m a full h =
-    let f = full-form m a full in
-    let s : length (imageOf m) ≤ 1472 = omega (arith, f .image-size, f .most) in
-    ap (λ (r : Mac). r .mac) (hmac-taken key (imageOf m) h (omega arith))
+pub same-differ : (xs ys : List ℕ) → sameBytes xs ys ≡ false → xs ≢ ys
+same-differ xs ys e g = let t = equal-same xs ys g in let z : _≡_ {A = ℕ} 0 1 = cc in omega arith
 
--- the part of the message that holds the MAC
-pub mac-part : (m : List ℕ) (at : ℕ) → take (at + 33 - (at + 17)) (drop (at + 17) m) ≡ take 16 (drop (at + 17) m)
-mac-part m at =
-    let e : at + 33 - (at + 17) ≡ 16 = omega arith in
-    ap (λ (n : ℕ). take n (drop (at + 17) m)) e
+pub differ-same : (xs ys : List ℕ) → xs ≢ ys → sameBytes xs ys ≡ false
+differ-same xs ys h = on (sameBytes xs ys) refl
+  where
+    on : (t : Bool) → sameBytes xs ys ≡ t → t ≡ false
+    on true e = absurd (h (same-equal xs ys e))
+    on false e = refl
+
+-- ---- the MAC over the covered image, which `cover` writes into zeros that have room for any message
+
+module _ (m : List ℕ) (a : Auth) (full : formOf m ≡ Full a) where
+  abbrev zeroRoom : List ℕ
+  zeroRoom = replicate messageMost 0
+
+  covers : (coverSize m a zeroRoom ≡ length (imageOf m)) × (coverLeft m a zeroRoom ≡ imageOf m ++ drop (length (imageOf m)) zeroRoom)
+  covers = seal-laws .covers m a zeroRoom full (rw (length-replicate {A = ℕ} messageMost 0) (full-form m a full .most))
+
+  image-short : length (imageOf m) ≤ messageMost
+  image-short = let f = full-form m a full in omega (arith, f .image-size, f .most)
+
+  pub cover-short : (size : ℕ) → size ≡ coverSize m a zeroRoom → size ≤ messageMost
+  cover-short size e = omega (arith, image-short, covers .0)
+
+  pub cover-front : (size : ℕ) (left : List ℕ) → size ≡ coverSize m a zeroRoom → left ≡ coverLeft m a zeroRoom → take size left ≡ imageOf m
+  cover-front size left e f =
+      ap (λ (n : ℕ). take n left) (e ∙ covers .0)
+      ∙ ap (take (length (imageOf m))) (f ∙ covers .1)
+      ∙ take-at (imageOf m) (drop (length (imageOf m)) zeroRoom) (length (imageOf m)) refl
+
+  pub mac-right : (key text : List ℕ) → length key ≤ keyMost → text ≡ imageOf m → hmacOf key text .mac ≡ hmac key (imageOf m)
+  mac-right key text h e =
+      ap (λ (x : List ℕ). hmacOf key x .mac) e
+      ∙ ap (λ (r : Mac). r .mac) (hmac-taken key (imageOf m) h (omega (arith, image-short)))
+
+-- ---- the MAC that stands in a message
+
+abbrev pub macIn : List ℕ → Auth → List ℕ
+macIn m a = take macSize (drop (a .at + macAt) m)
+
+-- the part that is lent for comparing
+pub mac-part : (m : List ℕ) (a : Auth) → take (a .at + fullSize - (a .at + macAt)) (drop (a .at + macAt) m) ≡ macIn m a
+mac-part m a =
+    let e : a .at + fullSize - (a .at + macAt) ≡ macSize = omega arith in
+    ap (λ (n : ℕ). take n (drop (a .at + macAt) m)) e
+
+pub mac-length : (m : List ℕ) (a : Auth) → formOf m ≡ Full a → length (macIn m a) ≡ macSize
+mac-length m a full = length-take-le macSize (drop (a .at + macAt) m) (omega (arith, length-drop (a .at + macAt) m, full-form m a full .inside))
 
 -- the comparison's answer, for the key and the MAC as the definition has them
-pub mac-compared : (r : Bool) (m mac key key′ : List ℕ) (at : ℕ) → r ≡ sameBytes (take (at + 33 - (at + 17)) (drop (at + 17) m)) mac
-    → mac ≡ hmac key (imageOf m) → key ≡ key′ → sameBytes (take 16 (drop (at + 17) m)) (hmac key′ (imageOf m)) ≡ r
-mac-compared r m mac key key′ at e f g =
+pub mac-compared : (r : Bool) (m mac key key′ : List ℕ) (a : Auth) → r ≡ sameBytes (take (a .at + fullSize - (a .at + macAt)) (drop (a .at + macAt) m)) mac
+    → mac ≡ hmac key (imageOf m) → key ≡ key′ → sameBytes (macIn m a) (hmac key′ (imageOf m)) ≡ r
+mac-compared r m mac key key′ a e f g =
     sym
     (e
-    ∙ ap (λ (x : List ℕ). sameBytes x mac) (mac-part m at)
-    ∙ ap (sameBytes (take 16 (drop (at + 17) m))) (f ∙ ap (λ (k : List ℕ). hmac k (imageOf m)) g))
+    ∙ ap (λ (x : List ℕ). sameBytes x mac) (mac-part m a)
+    ∙ ap (sameBytes (macIn m a)) (f ∙ ap (λ (k : List ℕ). hmac k (imageOf m)) g))

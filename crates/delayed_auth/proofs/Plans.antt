@@ -1,179 +1,100 @@
--- The ends of `seal`: a plan is one leaf of `sealOf`, and the two writers leave the message that `sealedMessage` says.
--- The only file that unfolds `planOf`, `sealOf` and `sealedMessage`.
+-- The ends of a seal: each plan as one case, and back; and what a plan leads to. The only file that unfolds `planOf` and its stages, and `sealOf`.
 use mathlib.Core.Path.{_≡_, refl, sym, ap, _∙_}
 use mathlib.Core.Logic.{_≢_}
 use mathlib.Core.Bool.{Bool, true, false}
-use mathlib.Core.List.{List, _++_}
+use mathlib.Core.List.{List}
 use mathlib.Core.Option.{Option, none, some}
-use Prim.Native.Nat.{ℕ, _+_, _-_, _^_, _≤_, _<_}
-use native.Mathlib.Omega.{arith}
-use borrow.Author.Tests.{eq-eqb, ne-eqb, eqb-false}
+use Prim.Native.Nat.{ℕ, _+_}
+use borrow.Author.Tests.{eq-eqb, ne-eqb, eqb-true, eqb-false}
 use lib.Dec.{eqb}
-use lib.ListN.{length, getD, take, drop, length-append, length-drop}
-use lib.Seq.{length-take-le}
+use lib.ListN.{getD, set}
 use Rattle.refusal.specs.declared.Refusal.{Refusal}
-use Rattle.refusal.specs.declared.Refusal.the-variants.{UnsoundBook, UnknownSecret, CounterSpent}
-use Rattle.hmac_md5.specs.Hmac.{hmac}
-use Rattle.octets.specs.Bytes.{written, zeros}
-use Rattle.dhcp_message.specs.Bytes.{be32}
+use Rattle.refusal.specs.declared.Refusal.the-variants.{UnknownSecret, CounterSpent}
 use Rattle.dhcp_message.specs.Said.{formOf}
-use Rattle.dhcp_message.specs.Image.{imageOf}
-use Rattle.dhcp_message.specs.Seal.{fields, fieldsPut, macPut, sealedWith, withFields}
 use Rattle.dhcp_message.specs.declared.Auth.{Auth}
 use Rattle.dhcp_message.specs.declared.Form.{Form}
 use Rattle.dhcp_message.specs.declared.Form.the-variants.{Refused as FormRefused, Full}
-use Rattle.dhcp_message.proofs.Seals.{seal-laws, full-form}
-use Rattle.key_book.specs.Book.{Book, sound, rowOf, keyOf}
+use Rattle.key_book.specs.Book.{Book, rowOf, keyOf}
 use Rattle.delayed_auth.specs.declared.Plan.{Plan}
 use Rattle.delayed_auth.specs.declared.Plan.the-variants.{Ready, NotReady}
-use Rattle.delayed_auth.specs.Seal.{Outcome, sealed, unsealed, counterMost, sealedMessage, sealedCounter, sealedRow, sealedForm, sealedSound, sealOf}
-use Rattle.delayed_auth.specs.Plan.{planCounter, planRow, planForm, planSound, planOf}
-use Rattle.delayed_auth.proofs.Judging.{RowFacts, row-facts}
+use Rattle.delayed_auth.specs.declared.Sealing.{Sealing}
+use Rattle.delayed_auth.specs.declared.Sealing.the-variants.{Sealed, Unsealed}
+use Rattle.delayed_auth.specs.Admit.{admittedForm}
+use Rattle.delayed_auth.specs.Seal.{counterMost, sealedMessage, planCounter, planRow, planForm, planOf, outcomeBy, sealOf}
+use Rattle.delayed_auth.specs.Seal.{Outcome, sealingOf, messageAfter, sentAfter}
+use Rattle.delayed_auth.proofs.Admits.{full-passed, RowFacts, row-facts}
 
--- ---- the plan
+pub data PlanCase (b : Book) (id : ℕ) (m : List ℕ) : Plan → Type 0 where
+  plan-refused : {r : Refusal} → FormRefused r ≡ admittedForm b m → PlanCase b id m (NotReady r)
+  plan-unknown : {a : Auth} → Full a ≡ admittedForm b m → rowOf b id ≡ none → PlanCase b id m (NotReady UnknownSecret)
+  plan-spent : {a : Auth} {k : ℕ} → Full a ≡ admittedForm b m → rowOf b id ≡ some k → getD (b .sent) k 0 ≡ counterMost
+      → PlanCase b id m (NotReady CounterSpent)
+  plan-ready : {a : Auth} {k : ℕ} → Full a ≡ admittedForm b m → rowOf b id ≡ some k → getD (b .sent) k 0 ≢ counterMost → PlanCase b id m (Ready a k)
 
 module _ (b : Book) (id : ℕ) (m : List ℕ) where
-  pub plan-unsound : sound b ≡ false → NotReady UnsoundBook ≡ planOf b id m
-  unfolding planOf planSound
-  plan-unsound s = rw s
+  pub plan-case : PlanCase b id m (planOf b id m)
+  unfolding planOf planForm planRow
+  plan-case = on (admittedForm b m) refl
+    where
+      counter : (a : Auth) → Full a ≡ admittedForm b m → (k : ℕ) → rowOf b id ≡ some k → (t : Bool) → eqb (getD (b .sent) k 0) counterMost ≡ t
+          → PlanCase b id m (planCounter a k t)
+      counter a e k f true p = plan-spent e f (eqb-true _ _ p)
+      counter a e k f false p = plan-ready e f (eqb-false _ _ p)
 
-  module _ (s : sound b ≡ true) where
-    plan-form : (f : Form) → formOf m ≡ f → planForm b id f ≡ planOf b id m
-    unfolding planOf planSound
-    plan-form f e = rw (s, e)
+      row : (a : Auth) → Full a ≡ admittedForm b m → (o : Option ℕ) → rowOf b id ≡ o → PlanCase b id m (planRow b a o)
+      row a e none f = plan-unknown e f
+      row a e (some k) f = counter a e k f (eqb (getD (b .sent) k 0) counterMost) refl
 
-    pub plan-refused : (r : Refusal) → formOf m ≡ FormRefused r → NotReady r ≡ planOf b id m
-    unfolding planForm
-    plan-refused r e = plan-form (FormRefused r) e
+      on : (f : Form) → f ≡ admittedForm b m → PlanCase b id m (planForm b id f)
+      on (FormRefused r) e = plan-refused e
+      on (Full a) e = row a e (rowOf b id) refl
 
-    module _ (a : Auth) (full : formOf m ≡ Full a) where
-      plan-row : (o : Option ℕ) → rowOf b id ≡ o → planRow b a o ≡ planOf b id m
-      unfolding planForm
-      plan-row o e = ap (planRow b a) (sym e) ∙ plan-form (Full a) full
+  plan-row : (a : Auth) (o : Option ℕ) → Full a ≡ admittedForm b m → rowOf b id ≡ o → planRow b a o ≡ planOf b id m
+  unfolding planOf planForm
+  plan-row a o e f = ap (planRow b a) (sym f) ∙ ap (planForm b id) e
 
-      pub plan-unknown : rowOf b id ≡ none → NotReady UnknownSecret ≡ planOf b id m
-      unfolding planRow
-      plan-unknown e = plan-row none e
+  pub case-plan : (p : Plan) → PlanCase b id m p → p ≡ planOf b id m
+  unfolding planOf planForm planRow
+  case-plan p (plan-refused e) = ap (planForm b id) e
+  case-plan p (plan-unknown {a} e f) = plan-row a none e f
+  case-plan p (plan-spent {a} {k} e f h) = rw (eq-eqb (getD (b .sent) k 0) counterMost h) at (plan-row a (some k) e f)
+  case-plan p (plan-ready {a} {k} e f h) = rw (ne-eqb (getD (b .sent) k 0) counterMost h) at (plan-row a (some k) e f)
 
-      module _ (k : ℕ) (row : rowOf b id ≡ some k) where
-        pub plan-spent : getD (b .sent) k 0 ≡ counterMost → NotReady CounterSpent ≡ planOf b id m
-        unfolding planRow
-        plan-spent h = rw (eq-eqb (getD (b .sent) k 0) counterMost h) at (plan-row (some k) row)
+  pub seal-planned : (p : Plan) → p ≡ planOf b id m → outcomeBy b id m p ≡ sealOf b id m
+  unfolding sealOf
+  seal-planned p e = ap (outcomeBy b id m) e
 
-        pub plan-ready : getD (b .sent) k 0 ≢ counterMost → Ready a k ≡ planOf b id m
-        unfolding planRow
-        plan-ready h = rw (ne-eqb (getD (b .sent) k 0) counterMost h) at (plan-row (some k) row)
-
--- ---- what a plan leads to
-
-abbrev outcomeBy : Book → ℕ → List ℕ → Plan → Outcome
-outcomeBy b id m (Ready a k) = sealed k (getD (b .sent) k 0 + 1) (sealedMessage (keyOf b k) m a (getD (b .sent) k 0 + 1) id)
-outcomeBy b id m (NotReady r) = unsealed r
-
-by-counter : (b : Book) (id : ℕ) (m : List ℕ) (a : Auth) (k : ℕ) (t : Bool) → outcomeBy b id m (planCounter a k t) ≡ sealedCounter b m a id k t
-by-counter b id m a k true = refl
-by-counter b id m a k false = refl
-
-by-row : (b : Book) (id : ℕ) (m : List ℕ) (a : Auth) (o : Option ℕ) → outcomeBy b id m (planRow b a o) ≡ sealedRow b m a id o
-unfolding planRow sealedRow
-by-row b id m a none = refl
-by-row b id m a (some k) = by-counter b id m a k (eqb (getD (b .sent) k 0) counterMost)
-
-by-form : (b : Book) (id : ℕ) (m : List ℕ) (f : Form) → outcomeBy b id m (planForm b id f) ≡ sealedForm b m id f
-unfolding planForm sealedForm
-by-form b id m (FormRefused r) = refl
-by-form b id m (Full a) = by-row b id m a (rowOf b id)
-
-by-sound : (b : Book) (id : ℕ) (m : List ℕ) (t : Bool) → outcomeBy b id m (planSound b id m t) ≡ sealedSound b id m t
-unfolding planSound sealedSound
-by-sound b id m false = refl
-by-sound b id m true = by-form b id m (formOf m)
-
-pub seal-planned : (b : Book) (id : ℕ) (m : List ℕ) (p : Plan) → p ≡ planOf b id m → outcomeBy b id m p ≡ sealOf b id m
-unfolding planOf sealOf
-seal-planned b id m p e = ap (outcomeBy b id m) e ∙ by-sound b id m (sound b)
-
--- ---- what is known where a plan is ready
+-- ---- a plan that is ready
 
 pub record ReadyFacts (b : Book) (m : List ℕ) (a : Auth) (k : ℕ) : Type 0 where
   pub full : formOf m ≡ Full a
-  pub row : RowFacts b k
   pub left : getD (b .sent) k 0 ≢ counterMost
-
-ready-counter : (a c : Auth) (j k : ℕ) (b : Book) (t : Bool) → eqb (getD (b .sent) j 0) counterMost ≡ t → Ready a k ≡ planCounter c j t → (k ≡ j) × (a ≡ c) × (getD (b .sent) j 0 ≢ counterMost)
-ready-counter a c j k b true f e = absurd (let z : _≡_ {A = ℕ} 0 1 = cc in omega arith)
-ready-counter a c j k b false f e = (cc, cc, eqb-false (getD (b .sent) j 0) counterMost f)
-
-ready-row : (b : Book) (id : ℕ) (m : List ℕ) (a c : Auth) (k : ℕ) (o : Option ℕ) → sound b ≡ true → formOf m ≡ Full c → rowOf b id ≡ o → Ready a k ≡ planRow b c o → ReadyFacts b m a k
-unfolding planRow
-ready-row b id m a c k none s f r e = absurd (let z : _≡_ {A = ℕ} 0 1 = cc in omega arith)
-ready-row b id m a c k (some j) s f r e =
-    let w = ready-counter a c j k b (eqb (getD (b .sent) j 0) counterMost) refl e in
-    record { full = f ∙ ap Full (sym (w .1)); row = row-facts b id k s (r ∙ ap some (sym (w .0))); left = rw (w .0) (w .2) }
-
-ready-form : (b : Book) (id : ℕ) (m : List ℕ) (a : Auth) (k : ℕ) (f : Form) → sound b ≡ true → formOf m ≡ f → Ready a k ≡ planForm b id f → ReadyFacts b m a k
-unfolding planForm
-ready-form b id m a k (FormRefused r) s f e = absurd (let z : _≡_ {A = ℕ} 0 1 = cc in omega arith)
-ready-form b id m a k (Full c) s f e = ready-row b id m a c k (rowOf b id) s f refl e
-
-ready-sound : (b : Book) (id : ℕ) (m : List ℕ) (a : Auth) (k : ℕ) (t : Bool) → sound b ≡ t → Ready a k ≡ planSound b id m t → ReadyFacts b m a k
-unfolding planSound
-ready-sound b id m a k false s e = absurd (let z : _≡_ {A = ℕ} 0 1 = cc in omega arith)
-ready-sound b id m a k true s e = ready-form b id m a k (formOf m) s refl e
+  pub row : RowFacts b k
 
 pub ready-facts : (b : Book) (id : ℕ) (m : List ℕ) (a : Auth) (k : ℕ) → Ready a k ≡ planOf b id m → ReadyFacts b m a k
-unfolding planOf
-ready-facts b id m a k e = ready-sound b id m a k (sound b) refl e
+ready-facts b id m a k e = on (rw (← e) at (plan-case b id m))
+  where
+    on : PlanCase b id m (Ready a k) → ReadyFacts b m a k
+    on (plan-ready {a} {k} e f h) = let w = full-passed b m a e in record { full = w .1; left = h; row = row-facts b id k (w .0) f }
 
--- ---- what the two writers leave
+-- ---- what the entry returns, and what it leaves in the message and in the sent counters
 
-module _ (m : List ℕ) (a : Auth) (c id : ℕ) (full : formOf m ≡ Full a) (hc : c < 2 ^ 64) (hi : id < 2 ^ 32) where
-  -- the message once counter and id are written
-  pub fielded : List ℕ
-  fielded = written (a .at + 5) (fields c id) m
+module _ (b : Book) (id : ℕ) (m : List ℕ) where
+  abbrev Ends : Sealing → List ℕ → List ℕ → Type 0
+  Ends answer message sent =
+      (answer ≡ sealingOf (sealOf b id m)) × ((message ≡ messageAfter (sealOf b id m) m) × (sent ≡ sentAfter (sealOf b id m) (b .sent)))
 
-  inside : a .at + 5 + 28 ≤ length m
-  inside = omega (arith, full-form m a full .inside)
+  ends-by : (p : Plan) → p ≡ planOf b id m
+      → let o = outcomeBy b id m p in Ends (sealingOf o) (messageAfter o m) (sentAfter o (b .sent))
+  ends-by p e =
+      let o = seal-planned b id m p e in
+      (ap sealingOf o, (ap (λ (x : Outcome). messageAfter x m) o, ap (λ (x : Outcome). sentAfter x (b .sent)) o))
 
-  old : List ℕ
-  old = fields c id ++ take 16 (drop (a .at + 5 + 12) m)
+  pub ends-refused : (r : Refusal) → NotReady r ≡ planOf b id m → Ends (Unsealed r) m (b .sent)
+  ends-refused r e = ends-by (NotReady r) e
 
-  length-old : length old ≡ 28
-  unfolding old
-  length-old =
-      length-append (fields c id) (take 16 (drop (a .at + 5 + 12) m))
-      ∙ omega (arith, length-take-le 16 (drop (a .at + 5 + 12) m) (omega (arith, length-drop (a .at + 5 + 12) m, inside)))
-
-  fielded-sealed : fielded ≡ sealedWith a old m
-  unfolding fielded old
-  fielded-sealed = seal-laws .fields-alone m (a .at + 5) c id inside
-
-  pub fielded-size : length fielded ≡ length m
-  fielded-size = ap length fielded-sealed ∙ seal-laws .seals m a old full length-old .size
-
-  pub fielded-form : formOf fielded ≡ Full (withFields a c id)
-  unfolding old
-  fielded-form =
-      ap formOf fielded-sealed
-      ∙ seal-laws .seals m a old full length-old .form
-      ∙ ap (λ (n : ℕ). Full (withFields a n (be32 old 8))) (seal-laws .counter-read c id (take 16 (drop (a .at + 5 + 12) m)) hc)
-      ∙ ap (λ (n : ℕ). Full (withFields a c n)) (seal-laws .id-read c id (take 16 (drop (a .at + 5 + 12) m)) hi)
-
-  fielded-image : imageOf fielded ≡ imageOf (sealedWith a (fields c id ++ zeros 16) m)
-  unfolding old
-  fielded-image =
-      ap imageOf fielded-sealed
-      ∙ seal-laws .seals m a old full length-old .image (fields c id ++ zeros 16) refl refl
-
-  pub fields-left : (size : ℕ) → size ≡ 28
-      → take (a .at + 5) m ++ (fieldsPut (take size (drop (a .at + 5) m)) c id ++ drop size (drop (a .at + 5) m)) ≡ fielded
-  unfolding fielded
-  fields-left size e = seal-laws .fields-lent m (a .at + 5) size c id e (omega (arith, inside))
-
-  pub mac-left : (key mac : List ℕ) (size : ℕ) → size ≡ 28 → length mac ≡ 16 → mac ≡ hmac key (imageOf fielded)
-      → take (a .at + 5) fielded ++ (macPut (take size (drop (a .at + 5) fielded)) mac ++ drop size (drop (a .at + 5) fielded)) ≡ sealedMessage key m a c id
-  unfolding fielded sealedMessage
-  mac-left key mac size e l f =
-      seal-laws .mac-lent fielded (a .at + 5) size mac e l (omega (arith, fielded-size, inside))
-      ∙ seal-laws .mac-behind m (a .at + 5) c id mac inside
-      ∙ ap (λ (x : List ℕ). written (a .at + 5) (fields c id ++ x) m) (f ∙ ap (hmac key) fielded-image)
+  pub ends-sealed : (a : Auth) (k : ℕ) → Ready a k ≡ planOf b id m → (key n : List ℕ) → key ≡ keyOf b k
+      → let c = getD (b .sent) k 0 + 1 in n ≡ sealedMessage key m a c id → Ends (Sealed c) n (set (b .sent) k c)
+  ends-sealed a k e key n f g =
+      let w = ends-by (Ready a k) e in
+      (w .0, (g ∙ ap (λ (x : List ℕ). sealedMessage x m a (getD (b .sent) k 0 + 1) id) f ∙ w .1 .0, w .1 .1))

@@ -1,5 +1,5 @@
--- What a check answers (document 01, 'Check, key and seal'; RFC 3118, section 5.3): numbers 1 to 12 in their order, else the row and the
--- counter; and what it stores. Nothing but the named row's received counter changes, and that only where the message is accepted.
+-- What a check answers (docs/RULES.md, 'Check'; RFC 3118, section 5.3): numbers 1 to 12 in their order, else the row and the counter; and
+-- what it stores. Nothing but the named row's received counter changes, and that only where the message is accepted.
 use Prim.Native.Nat.{ℕ}
 use mathlib.Core.Bool.{Bool, true, false, _&&_}
 use mathlib.Core.List.{List, [], _∷_}
@@ -7,12 +7,12 @@ use mathlib.Core.Option.{Option, none, some}
 use lib.Dec.{ltb, eqb}
 use lib.ListN.{getD, set}
 use Rattle.refusal.specs.Number.{numberOf, done}
-use Rattle.refusal.specs.declared.Refusal.{Refusal}
-use Rattle.refusal.specs.declared.Refusal.the-variants.{UnsoundBook, UnknownSecret, Replay, WrongMac}
+use Rattle.refusal.specs.declared.Refusal.the-variants.{UnknownSecret, Replay, WrongMac}
 use Rattle.hmac_md5.specs.Hmac.{hmac}
-use Rattle.dhcp_message.specs.Said.{Said, refused, says, saidOf}
+use Rattle.dhcp_message.specs.Said.{Said, refused, says}
 use Rattle.dhcp_message.specs.Image.{imageOf}
-use Rattle.key_book.specs.Book.{Book, sound, rowOf, keyOf}
+use Rattle.key_book.specs.Book.{Book, rowOf, keyOf}
+use Rattle.delayed_auth.specs.Admit.{admittedSaid}
 use Rattle.delayed_auth.specs.declared.Verdict.{Verdict}
 use Rattle.delayed_auth.specs.declared.Verdict.the-variants.{Accepted, Refused}
 
@@ -23,7 +23,8 @@ sameBytes [] (y ∷ ys) = false
 sameBytes (x ∷ xs) [] = false
 sameBytes (x ∷ xs) (y ∷ ys) = eqb x y && sameBytes xs ys
 
--- 11 and 12: whether the counter is above the stored one, and whether the MAC is right
+-- 11 and 12, by whether the counter is above the stored one and whether the MAC is right. With replay method 0 the counter rises with every
+-- message (RFC 3118, section 2), and the stored one was accepted: an equal one is that message again, or one sealed with a counter used before.
 abbrev pub judgedBy : ℕ → ℕ → (above right : Bool) → Verdict
 judgedBy row counter false right = Refused Replay
 judgedBy row counter true false = Refused WrongMac
@@ -34,25 +35,20 @@ unfoldable pub judgedRow : Book → List ℕ → (counter : ℕ) (mac : List ℕ
 judgedRow b m counter mac none = Refused UnknownSecret
 judgedRow b m counter mac (some k) = judgedBy k counter (ltb (getD (b .received) k 0) counter) (sameBytes mac (hmac (keyOf b k) (imageOf m)))
 
--- 2 to 9, and then by what the message says
+-- 1 to 9, and then by what the message says
 unfoldable pub judgedSaid : Book → List ℕ → Said → Verdict
 judgedSaid b m (refused r) = Refused r
 judgedSaid b m (says counter id mac) = judgedRow b m counter mac (rowOf b id)
 
--- 1
-unfoldable pub judgedSound : Book → List ℕ → Bool → Verdict
-judgedSound b m false = Refused UnsoundBook
-judgedSound b m true = judgedSaid b m (saidOf m)
-
 unfoldable pub checkOf : Book → List ℕ → Verdict
-checkOf b m = judgedSound b m (sound b)
+checkOf b m = judgedSaid b m (admittedSaid b m)
 
 -- the received counters after an answer
 abbrev pub receivedAfter : Verdict → List ℕ → List ℕ
 receivedAfter (Accepted row counter) received = set received row counter
 receivedAfter (Refused r) received = received
 
--- the paper's number of an answer
+-- the number of an answer
 abbrev pub verdictNumber : Verdict → ℕ
 verdictNumber (Accepted row counter) = done
 verdictNumber (Refused r) = numberOf r

@@ -1,4 +1,4 @@
+pub mod Admit
 pub mod Check
 pub mod Key
 pub mod Seal
-pub mod Plan

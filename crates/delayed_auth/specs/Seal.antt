@@ -1,5 +1,5 @@
--- What a seal answers (document 01, 'Check, key and seal'): numbers 1 to 9, then 10 for the given id, then 13, else the counter it wrote; and
--- what it leaves in the message and in the row of sent counters. Counter, id and MAC found in the message don't matter.
+-- What a seal answers (docs/RULES.md, 'Seal'): numbers 1 to 9, then 10 for the given id, then 13, else the counter it wrote; and what it
+-- leaves in the message and in the row of sent counters. Counter, id and MAC found in the message don't matter.
 use Prim.Native.Nat.{ℕ, _+_, _-_, _^_}
 use mathlib.Core.Bool.{Bool, true, false}
 use mathlib.Core.List.{List, _++_}
@@ -8,17 +8,19 @@ use lib.Dec.{eqb}
 use lib.ListN.{getD, set}
 use Rattle.refusal.specs.Number.{numberOf, done}
 use Rattle.refusal.specs.declared.Refusal.{Refusal}
-use Rattle.refusal.specs.declared.Refusal.the-variants.{UnsoundBook, UnknownSecret, CounterSpent}
+use Rattle.refusal.specs.declared.Refusal.the-variants.{UnknownSecret, CounterSpent}
+use Rattle.octets.specs.Bytes.{zeros}
 use Rattle.hmac_md5.specs.Hmac.{hmac}
 use Rattle.dhcp_message.specs.Layout.{macSize}
-use Rattle.octets.specs.Bytes.{zeros}
-use Rattle.dhcp_message.specs.Said.{formOf}
 use Rattle.dhcp_message.specs.Image.{imageOf}
 use Rattle.dhcp_message.specs.Seal.{fields, sealedWith}
 use Rattle.dhcp_message.specs.declared.Auth.{Auth}
 use Rattle.dhcp_message.specs.declared.Form.{Form}
-use Rattle.dhcp_message.specs.declared.Form.the-variants.{Refused as FormRefused, Full}
-use Rattle.key_book.specs.Book.{Book, sound, rowOf, keyOf}
+use Rattle.dhcp_message.specs.declared.Form.the-variants.{Refused, Full}
+use Rattle.key_book.specs.Book.{Book, rowOf, keyOf}
+use Rattle.delayed_auth.specs.Admit.{admittedForm}
+use Rattle.delayed_auth.specs.declared.Plan.{Plan}
+use Rattle.delayed_auth.specs.declared.Plan.the-variants.{Ready, NotReady}
 use Rattle.delayed_auth.specs.declared.Sealing.{Sealing}
 use Rattle.delayed_auth.specs.declared.Sealing.the-variants.{Sealed, Unsealed}
 
@@ -26,38 +28,45 @@ use Rattle.delayed_auth.specs.declared.Sealing.the-variants.{Sealed, Uns
 abbrev pub counterMost : ℕ
 counterMost = 2 ^ 64 - 1
 
+-- ---- what a seal goes by: option 90 as it was found and the row of the given id, or the refusal
+
+-- 13, by whether the sent counter is the largest
+abbrev pub planCounter : Auth → (row : ℕ) → (spent : Bool) → Plan
+planCounter a k true = NotReady CounterSpent
+planCounter a k false = Ready a k
+
+-- 10, for the given id
+unfoldable pub planRow : Book → Auth → Option ℕ → Plan
+planRow b a none = NotReady UnknownSecret
+planRow b a (some k) = planCounter a k (eqb (getD (b .sent) k 0) counterMost)
+
+-- 1 to 9
+unfoldable pub planForm : Book → (id : ℕ) → Form → Plan
+planForm b id (Refused r) = NotReady r
+planForm b id (Full a) = planRow b a (rowOf b id)
+
+unfoldable pub planOf : Book → (id : ℕ) → List ℕ → Plan
+planOf b id m = planForm b id (admittedForm b m)
+
+-- ---- what it does
+
+-- The message with counter and id written and the MAC of the resulting image. The image doesn't read the MAC's place, here zero.
+unfoldable pub sealedMessage : List ℕ → List ℕ → Auth → (counter id : ℕ) → List ℕ
+sealedMessage key m a counter id = sealedWith a (fields counter id ++ hmac key (imageOf (sealedWith a (fields counter id ++ zeros macSize) m))) m
+
 -- All that a seal does: the row whose sent counter it stores (which the entry doesn't return), the counter, and the message as it leaves it;
 -- or the refusal, which leaves the message as it was.
 pub data Outcome : Type 0 where
   sealed : (row counter : ℕ) (message : List ℕ) → Outcome
   unsealed : Refusal → Outcome
 
--- The message with counter and id written and the MAC of the resulting image. The image doesn't read the MAC's place, here zero.
-unfoldable pub sealedMessage : List ℕ → List ℕ → Auth → (counter id : ℕ) → List ℕ
-sealedMessage key m a counter id = sealedWith a (fields counter id ++ hmac key (imageOf (sealedWith a (fields counter id ++ zeros macSize) m))) m
-
--- 13, by whether the sent counter is the largest
-abbrev pub sealedCounter : Book → List ℕ → Auth → (id row : ℕ) → (spent : Bool) → Outcome
-sealedCounter b m a id k true = unsealed CounterSpent
-sealedCounter b m a id k false = sealed k (getD (b .sent) k 0 + 1) (sealedMessage (keyOf b k) m a (getD (b .sent) k 0 + 1) id)
-
--- 10, for the given id
-unfoldable pub sealedRow : Book → List ℕ → Auth → (id : ℕ) → Option ℕ → Outcome
-sealedRow b m a id none = unsealed UnknownSecret
-sealedRow b m a id (some k) = sealedCounter b m a id k (eqb (getD (b .sent) k 0) counterMost)
-
--- 2 to 9
-unfoldable pub sealedForm : Book → List ℕ → (id : ℕ) → Form → Outcome
-sealedForm b m id (FormRefused r) = unsealed r
-sealedForm b m id (Full a) = sealedRow b m a id (rowOf b id)
-
--- 1
-unfoldable pub sealedSound : Book → (id : ℕ) → List ℕ → Bool → Outcome
-sealedSound b id m false = unsealed UnsoundBook
-sealedSound b id m true = sealedForm b m id (formOf m)
+-- with the row's sent counter plus 1
+abbrev pub outcomeBy : Book → (id : ℕ) → List ℕ → Plan → Outcome
+outcomeBy b id m (Ready a k) = sealed k (getD (b .sent) k 0 + 1) (sealedMessage (keyOf b k) m a (getD (b .sent) k 0 + 1) id)
+outcomeBy b id m (NotReady r) = unsealed r
 
 unfoldable pub sealOf : Book → (id : ℕ) → List ℕ → Outcome
-sealOf b id m = sealedSound b id m (sound b)
+sealOf b id m = outcomeBy b id m (planOf b id m)
 
 -- what the entry returns
 abbrev pub sealingOf : Outcome → Sealing
@@ -73,7 +82,7 @@ abbrev pub sentAfter : Outcome → List ℕ → List ℕ
 sentAfter (sealed row counter message) sent = set sent row counter
 sentAfter (unsealed r) sent = sent
 
--- the paper's number of an answer, and of an outcome
+-- the number of an answer, and of an outcome
 abbrev pub sealingNumber : Sealing → ℕ
 sealingNumber (Sealed counter) = done
 sealingNumber (Unsealed r) = numberOf r

@@ -3,7 +3,6 @@
 use mathlib.Core.Path.{_≡_, refl, sym, ap, ap₂, _∙_, subst}
 use mathlib.Core.Logic.{_≢_}
 use Prim.Native.Nat.{ℕ, _+_, _≤_, _<_}
-use native.Mathlib.Nat.{add-assoc}
 use native.Mathlib.Omega.{arith}
 use mathlib.Core.Bool.{Bool, true, false}
 use mathlib.Core.List.{List, [], _++_}
@@ -15,18 +14,18 @@ use Rattle.refusal.specs.declared.Refusal.{Refusal}
 use Rattle.refusal.specs.declared.Refusal.the-variants.{OtherAuthentication, RequestForm}
 use Rattle.dhcp_message.specs.Layout.{delayed}
 use Rattle.octets.specs.Bytes.{starts}
-use Rattle.dhcp_message.specs.Bytes.{be32, be64}
+use Rattle.octets.specs.Numbers.{bigAt}
 use Rattle.dhcp_message.specs.Options.{Token}
 use Rattle.dhcp_message.specs.Message.{optionOf, offsetOf, Checked, stopped, passed, checkedOf}
 use Rattle.dhcp_message.specs.Said.{Said, says, saidFor, saidBy, placesOf, authOf, formSaid, formIn, formOf}
 use Rattle.dhcp_message.specs.Scan.{shapeIn, shapeOf}
-use Rattle.dhcp_message.specs.declared.Places.{Places}
+use Rattle.dhcp_message.specs.declared.scan.Places.{Places}
 use Rattle.dhcp_message.specs.declared.Auth.{Auth}
 use Rattle.dhcp_message.specs.declared.Form.{Form}
 use Rattle.dhcp_message.specs.declared.Form.the-variants.{Refused, Full}
-use Rattle.dhcp_message.specs.declared.Shape.the-variants.{Refused as SRefused, Passed as SPassed}
+use Rattle.dhcp_message.specs.declared.scan.Shape.the-variants.{Refused as SRefused, Passed as SPassed}
 use Rattle.octets.proofs.Starts.{starts-append}
-use Rattle.dhcp_message.proofs.Lists.{at-32, at-64}
+use Rattle.octets.proofs.HighFirst.{big-from, big-append}
 use Rattle.dhcp_message.proofs.Passing.{Passing, passing, option-is, from-option, inside, split-90}
 
 -- ---- what option 90 says, read off a message
@@ -53,16 +52,16 @@ module _ (x t : List ℕ) where
       let b : 16 ≤ length (drop 17 x) = rw length-drop (omega arith) in
       ap (take 16) (drop-append-le 17 x t a) ∙ take-append-le 16 (drop 17 x) t b
 
-  says-kept : 33 ≤ length x → says (be64 (x ++ t) 5) (be32 (x ++ t) 13) (take 16 (drop 17 (x ++ t))) ≡ says (be64 x 5) (be32 x 13) (take 16 (drop 17 x))
+  says-kept : 33 ≤ length x → says (bigAt (x ++ t) 5 8) (bigAt (x ++ t) 13 4) (take 16 (drop 17 (x ++ t))) ≡ says (bigAt x 5 8) (bigAt x 13 4) (take 16 (drop 17 x))
   says-kept h =
-      let c = at-64 (x ++ t) x 5 5 (λ k l. byte-kept (5 + k) (omega arith)) in
-      let i = at-32 (x ++ t) x 13 13 (λ k l. byte-kept (13 + k) (omega arith)) in
+      let c = big-append x t 5 8 (omega arith) in
+      let i = big-append x t 13 4 (omega arith) in
       let m = mac-kept h in
       cc
 
   said-by : (u v : Bool) → eqb (getD x 1 0) 31 ≡ u → eqb (getD x 1 0) 11 ≡ v → 2 + getD x 1 0 ≡ length x
-      → saidFor u v (starts delayed (drop 2 (x ++ t))) (says (be64 (x ++ t) 5) (be32 (x ++ t) 13) (take 16 (drop 17 (x ++ t))))
-      ≡ saidFor u v (starts delayed (drop 2 x)) (says (be64 x 5) (be32 x 13) (take 16 (drop 17 x)))
+      → saidFor u v (starts delayed (drop 2 (x ++ t))) (says (bigAt (x ++ t) 5 8) (bigAt (x ++ t) 13 4) (take 16 (drop 17 (x ++ t))))
+      ≡ saidFor u v (starts delayed (drop 2 x)) (says (bigAt x 5 8) (bigAt x 13 4) (take 16 (drop 17 x)))
   said-by true v hu hv h = let n = eqb-true (getD x 1 0) 31 hu in ap₂ (λ (b : Bool) (s : Said). saidFor true v b s) (method-kept (omega arith)) (says-kept (omega arith))
   said-by false true hu hv h = let n = eqb-true (getD x 1 0) 11 hv in ap (λ (b : Bool). saidFor false true b (says 0 0 [])) (method-kept (omega arith))
   said-by false false hu hv h = refl
@@ -70,22 +69,20 @@ module _ (x t : List ℕ) where
   pub said-kept : 2 + getD x 1 0 ≡ length x → saidBy (x ++ t) ≡ saidBy x
   unfolding saidBy
   said-kept h =
-      ap (λ (n : ℕ). saidFor (eqb n 31) (eqb n 11) (starts delayed (drop 2 (x ++ t))) (says (be64 (x ++ t) 5) (be32 (x ++ t) 13) (take 16 (drop 17 (x ++ t))))) (byte-kept 1 (omega arith))
+      ap (λ (n : ℕ). saidFor (eqb n 31) (eqb n 11) (starts delayed (drop 2 (x ++ t))) (says (bigAt (x ++ t) 5 8) (bigAt (x ++ t) 13 4) (take 16 (drop 17 (x ++ t))))) (byte-kept 1 (omega arith))
       ∙ said-by (eqb (getD x 1 0) 31) (eqb (getD x 1 0) 11) refl refl h
 
 -- at an offset of a message
 module _ (m : List ℕ) (at : ℕ) where
-  pub said-at : saidBy (drop at m) ≡ saidFor (eqb (getD m (at + 1) 0) 31) (eqb (getD m (at + 1) 0) 11) (starts delayed (drop (at + 2) m)) (says (be64 m (at + 5)) (be32 m (at + 13)) (take 16 (drop (at + 17) m)))
+  pub said-at : saidBy (drop at m) ≡ saidFor (eqb (getD m (at + 1) 0) 31) (eqb (getD m (at + 1) 0) 11) (starts delayed (drop (at + 2) m)) (says (bigAt m (at + 5) 8) (bigAt m (at + 13) 4) (take 16 (drop (at + 17) m)))
   unfolding saidBy
   said-at = said-same (getD-drop at m 1 0) (drop-drop 2 at m)
-      (at-64 (drop at m) m 5 (at + 5) (λ k l. getD-drop at m (5 + k) 0 ∙ ap (λ (n : ℕ). getD m n 0) (sym (add-assoc at 5 k))))
-      (at-32 (drop at m) m 13 (at + 13) (λ k l. getD-drop at m (13 + k) 0 ∙ ap (λ (n : ℕ). getD m n 0) (sym (add-assoc at 13 k))))
-      (ap (take 16) (drop-drop 17 at m))
+      (big-from m at 5 8) (big-from m at 13 4) (ap (take 16) (drop-drop 17 at m))
 
 -- ---- by the tests of `form_at`
 
 module _ (m : List ℕ) (p : Places) where
-  pub form-full : (d : Bool) (counter id : ℕ) → getD m (p .at + 1) 0 ≡ 31 → d ≡ starts delayed (drop (p .at + 2) m) → d ≡ true → counter ≡ be64 m (p .at + 5) → id ≡ be32 m (p .at + 13)
+  pub form-full : (d : Bool) (counter id : ℕ) → getD m (p .at + 1) 0 ≡ 31 → d ≡ starts delayed (drop (p .at + 2) m) → d ≡ true → counter ≡ bigAt m (p .at + 5) 8 → id ≡ bigAt m (p .at + 13) 4
       → Full (record { at = p .at; counter = counter; id = id; cut = p .cut; gap = p .gap }) ≡ formSaid p (saidBy (drop (p .at) m))
   form-full d counter id n e t ec ei = sym (ap (formSaid p) (said-at m (p .at)) ∙ rw (eq-eqb _ _ n, ← e, t, ← ec, ← ei))
 
@@ -177,18 +174,18 @@ pub record Fully (m : List ℕ) (a : Auth) : Type 0 where
   pub long : getD (optionOf 90 tokens) 1 0 ≡ 31
   pub method : starts delayed (drop 2 (optionOf 90 tokens)) ≡ true
   pub says-it : saidBy (optionOf 90 tokens) ≡ says (a .counter) (a .id) (take 16 (drop 17 (optionOf 90 tokens)))
-  pub counter-is : a .counter ≡ be64 (optionOf 90 tokens) 5
-  pub id-is : a .id ≡ be32 (optionOf 90 tokens) 13
+  pub counter-is : a .counter ≡ bigAt (optionOf 90 tokens) 5 8
+  pub id-is : a .id ≡ bigAt (optionOf 90 tokens) 13 4
   pub is : a ≡ authOf (placesOf tokens) (a .counter) (a .id)
 
 module _ (m : List ℕ) (a : Auth) (ts : List Token) (rest : List ℕ) (h : checkedOf m ≡ passed ts rest) where
   fully-for : (u v b : Bool) → eqb (getD (optionOf 90 ts) 1 0) 31 ≡ u → starts delayed (drop 2 (optionOf 90 ts)) ≡ b
-      → saidBy (optionOf 90 ts) ≡ saidFor u v b (says (be64 (optionOf 90 ts) 5) (be32 (optionOf 90 ts) 13) (take 16 (drop 17 (optionOf 90 ts))))
-      → formSaid (placesOf ts) (saidFor u v b (says (be64 (optionOf 90 ts) 5) (be32 (optionOf 90 ts) 13) (take 16 (drop 17 (optionOf 90 ts))))) ≡ Full a → Fully m a
+      → saidBy (optionOf 90 ts) ≡ saidFor u v b (says (bigAt (optionOf 90 ts) 5 8) (bigAt (optionOf 90 ts) 13 4) (take 16 (drop 17 (optionOf 90 ts))))
+      → formSaid (placesOf ts) (saidFor u v b (says (bigAt (optionOf 90 ts) 5 8) (bigAt (optionOf 90 ts) 13 4) (take 16 (drop 17 (optionOf 90 ts))))) ≡ Full a → Fully m a
   fully-for true v true hu hb s e =
-      let x : authOf (placesOf ts) (be64 (optionOf 90 ts) 5) (be32 (optionOf 90 ts) 13) ≡ a = cc in
-      let ec : be64 (optionOf 90 ts) 5 ≡ a .counter = ap (λ (a : Auth). a .counter) x in
-      let ei : be32 (optionOf 90 ts) 13 ≡ a .id = ap (λ (a : Auth). a .id) x in
+      let x : authOf (placesOf ts) (bigAt (optionOf 90 ts) 5 8) (bigAt (optionOf 90 ts) 13 4) ≡ a = cc in
+      let ec : bigAt (optionOf 90 ts) 5 8 ≡ a .counter = ap (λ (a : Auth). a .counter) x in
+      let ei : bigAt (optionOf 90 ts) 13 4 ≡ a .id = ap (λ (a : Auth). a .id) x in
       record {
         tokens = ts;
         rest = rest;

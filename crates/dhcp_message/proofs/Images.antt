@@ -8,7 +8,7 @@ use native.Mathlib.Omega.{arith}
 use mathlib.Core.Bool.{Bool, true, false, cond, not, _&&_}
 use mathlib.Core.List.{List, [], _∷_, _++_, append-assoc}
 use lib.ListN.{length, take, drop, getD, length-append, length-drop, take-append-drop}
-use lib.Seq.{length-take-le, take-at, drop-at, take-all, drop-append-add, drop-drop}
+use lib.Seq.{length-take-le, take-at, drop-at, take-all, drop-append-add}
 use lib.Dec.{leb, eqb}
 use borrow.Author.Tests.{le-leb, lt-leb, leb-true, not-true, not-false}
 use Rattle.octets.specs.Bytes.{written, zeros}
@@ -18,10 +18,9 @@ use Rattle.dhcp_message.specs.Said.{formOf}
 use Rattle.dhcp_message.specs.Image.{without, macZero, headWith, headZero, imageIn, imageOf, coverFits, coverBytes, coverSize, coverLeft}
 use Rattle.dhcp_message.specs.declared.Auth.{Auth}
 use Rattle.dhcp_message.specs.declared.Form.the-variants.{Full}
-use Rattle.octets.proofs.Written.{length-written, written-left}
+use Rattle.octets.proofs.Written.{length-written, written-left, written-join, written-front}
 use Rattle.octets.proofs.Starts.{and-true}
-use Rattle.dhcp_message.proofs.Lists.{written-body}
-use Rattle.dhcp_message.proofs.Tokens.{Split, split, encode-append, count-append, count-split, option-none, before-none, without-none, without-append, without-one, count-without, zero-append, zero-none}
+use Rattle.dhcp_message.proofs.Tokens.{Split, split, encode-append, count-append, count-split, option-none, before-none, without-none, without-append, without-one, count-without, zero-append, zero-none, written-body}
 use Rattle.dhcp_message.proofs.Passing.{Passing, whole, header-size, around, front-size, option-is, inside, split-90}
 use Rattle.dhcp_message.proofs.Forms.{Fully, fully, option-length}
 
@@ -226,6 +225,11 @@ module _ (size room : ℕ) (a : Auth) where
         unfolding coverFits
         fits-at h = rw (le-leb _ _ l₁, le-leb _ _ l₂, le-leb _ _ l₃, le-leb _ _ h)
 
+-- the parts that are copied, before and behind the stretch
+pub record PartSizes (m : List ℕ) (a : Auth) : Type 0 where
+  pub first : length (take (a .cut) m) ≡ a .cut
+  pub second : length (take (length m - (a .cut + a .gap)) (drop (a .cut + a .gap) m)) ≡ length m - (a .cut + a .gap)
+
 -- the writes into a buffer: two copies, then the zeros
 module _ (m d : List ℕ) (a : Auth) (f : Fits (length m) (length d) a) where
   abbrev tail : List ℕ
@@ -239,36 +243,32 @@ module _ (m d : List ℕ) (a : Auth) (f : Fits (length m) (length d) a) where
       let l : a .cut ≤ length m = omega (arith, f .stretch) in
       length-append (take (a .cut) m) (drop (a .cut + a .gap) m) ∙ ap₂ (λ (x y : ℕ). x + y) (length-take-le (a .cut) m l) (length-drop (a .cut + a .gap) m) ∙ omega (arith, f .stretch)
 
-  copies : (d₁ d₂ : List ℕ) → d₁ ≡ written 0 (take (a .cut) (drop 0 m)) d → d₂ ≡ written (a .cut) (take (length m - (a .cut + a .gap)) (drop (a .cut + a .gap) m)) d₁ → d₂ ≡ left ++ tail
-  unfolding written
-  copies d₁ d₂ e₁ e₂ =
-      let l : a .cut ≤ length m = omega (arith, f .stretch) in
-      let lt : length (take (a .cut) m) ≡ a .cut = length-take-le (a .cut) m l in
-      let ld : length (drop (a .cut + a .gap) m) ≡ length m - (a .cut + a .gap) = length-drop (a .cut + a .gap) m in
-      let all : take (length m - (a .cut + a .gap)) (drop (a .cut + a .gap) m) ≡ drop (a .cut + a .gap) m = take-all (length m - (a .cut + a .gap)) (drop (a .cut + a .gap) m) (omega arith) in
-      let n : a .cut + length (drop (a .cut + a .gap) m) ≡ length m - a .gap = omega (arith, f .stretch) in
-      let dn : drop (a .cut + length (drop (a .cut + a .gap) m)) (take (a .cut) m ++ drop (0 + length (take (a .cut) m)) d) ≡ drop (length m - a .gap) d =
-      ap (λ (k : ℕ). drop (k + length (drop (a .cut + a .gap) m)) (take (a .cut) m ++ drop (0 + length (take (a .cut) m)) d)) (sym lt)
-      ∙ drop-append-add (take (a .cut) m) _ (length (drop (a .cut + a .gap) m))
-      ∙ ap (λ (k : ℕ). drop (length (drop (a .cut + a .gap) m)) (drop k d)) (zero-add (length (take (a .cut) m)) ∙ lt)
-      ∙ drop-drop (length (drop (a .cut + a .gap) m)) (a .cut) d
-      ∙ ap (λ (k : ℕ). drop k d) n in
-      e₂
-      ∙ ap₂ (λ (x y : List ℕ). take (a .cut) y ++ (x ++ drop (a .cut + length x) y)) all e₁
-      ∙ ap₂ (λ (x y : List ℕ). x ++ (drop (a .cut + a .gap) m ++ y)) (take-at (take (a .cut) m) _ (a .cut) lt) dn
-      ∙ sym (append-assoc (take (a .cut) m) (drop (a .cut + a .gap) m) (drop (length m - a .gap) d))
+  pub part-sizes : PartSizes m a
+  part-sizes =
+      let n = length-drop (a .cut + a .gap) m in
+      record {
+        first = length-take-le (a .cut) m (omega (arith, f .stretch));
+        second = length-take-le (length m - (a .cut + a .gap)) (drop (a .cut + a .gap) m) (omega arith);
+      }
 
-  pub covered : (d₁ d₂ d₃ : List ℕ) → d₁ ≡ written 0 (take (a .cut) (drop 0 m)) d → d₂ ≡ written (a .cut) (take (length m - (a .cut + a .gap)) (drop (a .cut + a .gap) m)) d₁
-      → d₃ ≡ written (a .at + 17) (zeros 16) (headZero d₂) → (a .cut + (length m - (a .cut + a .gap)) ≡ coverSize m a d) × (d₃ ≡ coverLeft m a d)
+  copies : (d₁ d₂ : List ℕ) → d₁ ≡ written 0 (take (a .cut) m) d → d₂ ≡ written (a .cut) (take (length m - (a .cut + a .gap)) (drop (a .cut + a .gap) m)) d₁ → d₂ ≡ left ++ tail
+  copies d₁ d₂ e₁ e₂ =
+      let lt : length (take (a .cut) m) ≡ a .cut = length-take-le (a .cut) m (omega (arith, f .stretch)) in
+      let n = length-drop (a .cut + a .gap) m in
+      e₂ ∙ ap₂ (λ (x y : List ℕ). written (a .cut) x y) (take-all (length m - (a .cut + a .gap)) (drop (a .cut + a .gap) m) (omega arith)) e₁
+      ∙ written-join 0 (a .cut) (take (a .cut) m) (drop (a .cut + a .gap) m) d (zero-add _ ∙ lt) (omega (arith, f .stretch, f .fits-room))
+      ∙ written-front left d ∙ ap (λ (n : ℕ). left ++ drop n d) left-size
+
+  pub covered : (d₁ d₂ d₃ : List ℕ) → d₁ ≡ written 0 (take (a .cut) m) d → d₂ ≡ written (a .cut) (take (length m - (a .cut + a .gap)) (drop (a .cut + a .gap) m)) d₁
+      → d₃ ≡ written (a .at + 17) (zeros 16) (headZero d₂) → (length m - a .gap ≡ coverSize m a d) × (d₃ ≡ coverLeft m a d)
   unfolding coverSize coverLeft coverBytes
   covered d₁ d₂ d₃ e₁ e₂ e₃ =
       let t : coverFits (length m) (length d) a ≡ true = fits-all (length m) (length d) a f in
       let ls = left-size in
-      let n : a .cut + (length m - (a .cut + a .gap)) ≡ length m - a .gap = omega (arith, f .stretch) in
       let l28 : 28 ≤ length left = omega (arith, f .fields-there) in
       let hl : length (headZero left) ≡ length left = head-length (zeros 1) (zeros 4) left refl refl l28 in
       let lm : a .at + 17 + length (zeros 16) ≤ length (headZero left) = omega (arith, f .fields-there) in (
-        n ∙ ap (λ (x : Bool). cond x (length m - a .gap) 0) (sym t),
+        ap (λ (x : Bool). cond x (length m - a .gap) 0) (sym t),
         e₃ ∙ ap (written (a .at + 17) (zeros 16)) (ap headZero (copies d₁ d₂ e₁ e₂) ∙ head-left (zeros 1) (zeros 4) left tail refl refl l28)
             ∙ written-left (a .at + 17) (zeros 16) (headZero left) tail lm
             ∙ ap (λ (x : Bool). cond x (written (a .at + 17) (zeros 16) (headZero left) ++ tail) d) (sym t),

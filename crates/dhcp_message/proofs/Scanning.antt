@@ -19,14 +19,14 @@ use Rattle.dhcp_message.specs.Options.{Token, pad, opt, Parsed, cut, par
 use Rattle.dhcp_message.specs.Message.{count, optionOf, tokensBefore, onlyPads, isLast, stopped, passed, checkedTokens, checkedParsed, checkedOf}
 use Rattle.dhcp_message.specs.Said.{placesOf}
 use Rattle.dhcp_message.specs.Scan.{leadOf, hereOf, hereAt, seen90, seen82, seenOther, seenOf, scanFrom, scanParsed, emptyTally, scanOf, shapeFound, shapeIn, shapeOf}
-use Rattle.dhcp_message.specs.declared.Here.{Here}
-use Rattle.dhcp_message.specs.declared.Here.the-variants.{Cut as HCut, End as HEnd, Pad as HPad, Opt as HOpt}
-use Rattle.dhcp_message.specs.declared.Tally.{Tally}
-use Rattle.dhcp_message.specs.declared.Scan.{Scan}
-use Rattle.dhcp_message.specs.declared.Scan.the-variants.{Cut as SCut, Whole as SWhole}
-use Rattle.dhcp_message.specs.declared.Places.{Places}
-use Rattle.dhcp_message.specs.declared.Shape.{Shape}
-use Rattle.dhcp_message.specs.declared.Shape.the-variants.{Refused as SRefused, Passed as SPassed}
+use Rattle.dhcp_message.specs.declared.scan.Here.{Here}
+use Rattle.dhcp_message.specs.declared.scan.Here.the-variants.{Cut as HCut, End as HEnd, Pad as HPad, Opt as HOpt}
+use Rattle.dhcp_message.specs.declared.scan.Tally.{Tally}
+use Rattle.dhcp_message.specs.declared.scan.Scan.{Scan}
+use Rattle.dhcp_message.specs.declared.scan.Scan.the-variants.{Cut as SCut, Whole as SWhole}
+use Rattle.dhcp_message.specs.declared.scan.Places.{Places}
+use Rattle.dhcp_message.specs.declared.scan.Shape.{Shape}
+use Rattle.dhcp_message.specs.declared.scan.Shape.the-variants.{Refused as SRefused, Passed as SPassed}
 use Rattle.dhcp_message.proofs.Decoding.{decode-cons, decode-nil}
 use Rattle.dhcp_message.proofs.Tokens.{once, no-hit, option-none, before-none, last-none}
 

@@ -2,34 +2,34 @@
 -- image does not depend on the MAC. On tokens, one option 90 has another body of the same length.
 use mathlib.Core.Path.{_≡_, refl, sym, ap, ap₂, _∙_, subst}
 use mathlib.Core.Logic.{_≢_}
-use Prim.Native.Nat.{ℕ, suc, _+_, _/_, _%_, _^_, _≤_, _<_}
-use native.Mathlib.Nat.{add-assoc, add-zero, zero-add}
+use Prim.Native.Nat.{ℕ, suc, _+_, _^_, _≤_, _<_}
+use native.Mathlib.Nat.{add-zero, zero-add}
 use native.Mathlib.Omega.{arith}
 use mathlib.Core.Bool.{Bool, true, false, cond}
 use mathlib.Core.List.{List, [], _∷_, _++_, append-assoc}
-use lib.ListN.{length, take, drop, getD, length-append, length-drop, take-append-drop, List·getD-append}
-use lib.Seq.{length-take-le, take-all, take-at, drop-append-add, drop-append-le, drop-drop, getD-drop, getD-append-add}
+use lib.ListN.{length, take, drop, length-append, length-drop, take-append-drop}
+use lib.Seq.{length-take-le, take-at, drop-at, drop-append-add, drop-append-le, drop-drop}
 use lib.Dec.{eqb}
 use borrow.Author.Tests.{eq-eqb, ne-eqb}
 use Rattle.refusal.specs.declared.Refusal.{Refusal}
 use Rattle.dhcp_message.specs.Layout.{delayed}
 use Rattle.octets.specs.Bytes.{Bytes, written, zeros, starts}
-use Rattle.dhcp_message.specs.Bytes.{be32, be64, bytes32, bytes64}
+use Rattle.octets.specs.Numbers.{be, bigAt}
 use Rattle.dhcp_message.specs.Options.{Token, pad, opt, Parsed, encode}
 use Rattle.dhcp_message.specs.Message.{count, optionOf, tokensBefore, offsetOf, onlyPads, isLast, Checked, stopped, passed, checkedOf}
-use Rattle.dhcp_message.specs.Said.{Said, refused, says, saidBy, saidIn, saidOf, idOf, named, placesOf, authOf, formSaid, formIn, formOf, formSays, formNames, FormSays}
+use Rattle.dhcp_message.specs.Said.{Said, refused, says, saidFor, saidBy, saidIn, saidOf, idOf, named, placesOf, authOf, formSaid, formIn, formOf, formSays, formNames, FormSays}
 use Rattle.dhcp_message.specs.Image.{without, macZero, headZero, imageIn, imageOf, coverFits, coverBytes, coverSize, coverLeft}
 use Rattle.dhcp_message.specs.Seal.{fields, fieldsPut, macPut, sealedWith, withFields, FullForm, Sealed, SealLaws}
-use Rattle.dhcp_message.specs.declared.Places.{Places}
+use Rattle.dhcp_message.specs.declared.scan.Places.{Places}
 use Rattle.dhcp_message.specs.declared.Auth.{Auth}
 use Rattle.dhcp_message.specs.declared.Form.{Form}
 use Rattle.dhcp_message.specs.declared.Form.the-variants.{Refused, Full}
 use Rattle.octets.proofs.Written.{length-written, written-over, written-join, written-part, written-same, drop-written}
 use Rattle.octets.proofs.Starts.{starts-append}
 use Rattle.octets.proofs.Elements.{bytes-append, bytes-left, bytes-drop, bytes-written}
-use Rattle.dhcp_message.proofs.Lists.{written-body, at-32, at-64, below-32, below-64, read-32, read-64}
+use Rattle.octets.proofs.HighFirst.{be-length, bytes-be, big-fits, big-be, big-from, big-behind, big-append}
 use Rattle.dhcp_message.proofs.Decoding.{Codes}
-use Rattle.dhcp_message.proofs.Tokens.{Split, encode-append, option-there, without-append, zero-append}
+use Rattle.dhcp_message.proofs.Tokens.{Split, encode-append, option-there, without-append, zero-append, written-body}
 use Rattle.dhcp_message.proofs.Passing.{Passing, passing, checks, passing-27, passing-built, take-built, header-size, header-magic, codes, around, front-size, option-is, from-option, split-90}
 use Rattle.dhcp_message.proofs.Forms.{Fully, fully, full-says, mac-kept, option-length}
 use Rattle.dhcp_message.proofs.Images.{at-is, cut-is, gap-is, body-long, at-late, option-inside, stretch-inside, image-length, covers-full}
@@ -101,18 +101,12 @@ module _ (b new : List ℕ) (b-size : length b ≡ 31) (size : length new ≡ 28
   unfolding written
   opened = refl
 
-  byte-new : (k : ℕ) → k < 28 → getD x′ (5 + k) 0 ≡ getD new k 0
-  byte-new k h =
-      let l : k < length new = omega arith in
-      ap₂ (λ (n : ℕ) (x : List ℕ). getD x (n + k) 0) (sym ahead-size) opened
-      ∙ getD-append-add ahead (new ++ drop (3 + length new) b) k 0
-      ∙ List·getD-append new (drop (3 + length new) b) 0 k l
-
-  counter-new : be64 x′ 5 ≡ be64 new 0
-  counter-new = at-64 x′ new 5 0 (λ k h. byte-new k (omega arith) ∙ ap (λ (n : ℕ). getD new n 0) (sym (zero-add k)))
-
-  id-new : be32 x′ 13 ≡ be32 new 8
-  id-new = at-32 x′ new 13 8 (λ k h. ap (λ (n : ℕ). getD x′ n 0) (add-assoc 5 8 k) ∙ byte-new (8 + k) (omega arith))
+  -- a number among the new bytes
+  number-new : (at n : ℕ) → at + n ≤ 28 → bigAt x′ (5 + at) n ≡ bigAt new at n
+  number-new at n h =
+      ap₂ (λ (k : ℕ) (x : List ℕ). bigAt x (k + at) n) (sym ahead-size) opened
+      ∙ big-behind ahead (new ++ drop (3 + length new) b) at n
+      ∙ big-append new (drop (3 + length new) b) at n (omega arith)
 
   mac-new : take 16 (drop 17 x′) ≡ drop 12 new
   mac-new =
@@ -132,11 +126,13 @@ module _ (b new : List ℕ) (b-size : length b ≡ 31) (size : length new ≡ 28
       ∙ sym (starts-append delayed (take 3 b) (drop 3 b) l)
       ∙ ap (starts delayed) (take-append-drop 3 b) ∙ h
 
-  pub said-new : starts delayed b ≡ true → saidBy x′ ≡ says (be64 new 0) (be32 new 8) (drop 12 new)
+  pub said-new : starts delayed b ≡ true → saidBy x′ ≡ says (bigAt new 0 8) (bigAt new 8 4) (drop 12 new)
   unfolding saidBy
   said-new h =
       let n : length b′ ≡ 31 = length-new ∙ b-size in
-      rw (n, method-new h) (ap₂ (λ (c i : ℕ). says c i (take 16 (drop 17 x′))) counter-new id-new ∙ ap (says (be64 new 0) (be32 new 8)) mac-new)
+      ap₂ (λ (k : ℕ) (t : Bool). saidFor (eqb k 31) (eqb k 11) t (says (bigAt x′ 5 8) (bigAt x′ 13 4) (take 16 (drop 17 x′)))) n (method-new h)
+      ∙ ap₂ (λ (c i : ℕ). says c i (take 16 (drop 17 x′))) (number-new 0 8 (omega arith)) (number-new 8 4 (omega arith))
+      ∙ ap (says (bigAt new 0 8) (bigAt new 8 4)) mac-new
 
   -- zeros over the MAC leave counter and id
   pub zeroed-new : written 15 (zeros 16) b′ ≡ written 15 (zeros 16) (written 3 (take 12 new) b)
@@ -203,11 +199,11 @@ module _ (m : List ℕ) (a : Auth) (e : formOf m ≡ Full a) (new : List ℕ) (s
       let n : _≢_ {A = ℕ} 82 90 = λ e. omega arith in
       option-swap 90 (s .body) body′ same-size (s .back) 82 n (s .front) ∙ ap (optionOf 82) (sym (s .tokens))
 
-  auth-same : authOf (placesOf us) (be64 new 0) (be32 new 8) ≡ withFields a (be64 new 0) (be32 new 8)
+  auth-same : authOf (placesOf us) (bigAt new 0 8) (bigAt new 8 4) ≡ withFields a (bigAt new 0 8) (bigAt new 8 4)
   auth-same i = record {
     at = (offset-same 90 ∙ sym (at-is m a e)) i;
-    counter = be64 new 0;
-    id = be32 new 8;
+    counter = bigAt new 0 8;
+    id = bigAt new 8 4;
     cut = (offset-same 82 ∙ sym (cut-is m a e)) i;
     gap = (ap length option-same ∙ sym (gap-is m a e)) i;
   }
@@ -215,16 +211,16 @@ module _ (m : List ℕ) (a : Auth) (e : formOf m ≡ Full a) (new : List ℕ) (s
   method : starts delayed (s .body) ≡ true
   method = ap (λ (x : List ℕ). starts delayed (drop 2 x)) (sym (option-is m (y .tokens) (y .rest) (y .passing) 90 s)) ∙ y .method
 
-  said-sealed : saidBy (optionOf 90 us) ≡ says (be64 new 0) (be32 new 8) (drop 12 new)
+  said-sealed : saidBy (optionOf 90 us) ≡ says (bigAt new 0 8) (bigAt new 8 4) (drop 12 new)
   said-sealed = ap saidBy (option-there 90 (s .front) body′ (s .back) (s .none-front)) ∙ said-new (s .body) new (body-long m a e) size method
 
   checked-sealed : checkedOf (sealedWith a new m) ≡ passed us (y .rest)
   checked-sealed = checks (sealedWith a new m) us (y .rest) passing-sealed
 
-  form-sealed : formOf (sealedWith a new m) ≡ Full (withFields a (be64 new 0) (be32 new 8))
-  form-sealed = full-says (sealedWith a new m) us (y .rest) (be64 new 0) (be32 new 8) (drop 12 new) passing-sealed checked-sealed said-sealed ∙ ap Full auth-same
+  form-sealed : formOf (sealedWith a new m) ≡ Full (withFields a (bigAt new 0 8) (bigAt new 8 4))
+  form-sealed = full-says (sealedWith a new m) us (y .rest) (bigAt new 0 8) (bigAt new 8 4) (drop 12 new) passing-sealed checked-sealed said-sealed ∙ ap Full auth-same
 
-  says-sealed : saidOf (sealedWith a new m) ≡ says (be64 new 0) (be32 new 8) (drop 12 new)
+  says-sealed : saidOf (sealedWith a new m) ≡ says (bigAt new 0 8) (bigAt new 8 4) (drop 12 new)
   unfolding saidOf
   says-sealed = ap saidIn checked-sealed ∙ said-sealed
 
@@ -274,8 +270,8 @@ full-form m a e =
       passes = passing-27 m (y .tokens) (y .rest) p;
       said = ap saidIn (y .checked) ∙ y .says-it ∙ ap (says (a .counter) (a .id)) mac;
       image-size = image-length m a e;
-      counter-size = λ b. subst (λ (n : ℕ). n < 2 ^ 64) (sym (y .counter-is)) (below-64 (optionOf 90 (y .tokens)) 5 (bytes b));
-      id-size = λ b. subst (λ (n : ℕ). n < 2 ^ 32) (sym (y .id-is)) (below-32 (optionOf 90 (y .tokens)) 13 (bytes b));
+      counter-size = λ b. subst (λ (n : ℕ). n < 2 ^ 64) (sym (y .counter-is)) (big-fits (optionOf 90 (y .tokens)) 5 8 (bytes b));
+      id-size = λ b. subst (λ (n : ℕ). n < 2 ^ 32) (sym (y .id-is)) (big-fits (optionOf 90 (y .tokens)) 13 4 (bytes b));
     }
 
 -- ---- what a message says is what its form says
@@ -307,26 +303,30 @@ named-form m = ap idOf (said-form m) ∙ by (formOf m)
     by (Refused r) = refl
     by (Full a) = refl
 
--- a byte of option 90, where it stands
-byte-there : (m : List ℕ) (a : Auth) (e : formOf m ≡ Full a) (k : ℕ) → k < 33 → getD m (a .at + k) 0 ≡ getD (optionOf 90 (fully m a e .tokens)) k 0
-byte-there m a e k h =
+-- a number of option 90, where it stands
+number-there : (m : List ℕ) (a : Auth) (e : formOf m ≡ Full a) (at n : ℕ) → at + n ≤ 33 → bigAt (optionOf 90 (fully m a e .tokens)) at n ≡ bigAt m (a .at + at) n
+number-there m a e at n h =
     let y = fully m a e in
     let s = split-90 m (y .tokens) (y .rest) (y .passing) in
     let x = optionOf 90 (y .tokens) in
-    let l : k < length x = omega (arith, option-length m (y .tokens) (y .rest) (y .passing), y .long) in
-    ap (λ (n : ℕ). getD m (n + k) 0) (at-is m a e) ∙ sym (getD-drop (offsetOf 90 (y .tokens)) m k 0)
-    ∙ ap (λ (l : List ℕ). getD l k 0) (from-option m (y .tokens) (y .rest) (y .passing) 90 s)
-    ∙ List·getD-append x (encode (s .back) ++ (255 ∷ y .rest)) 0 k l
+    let l : at + n ≤ length x = omega (arith, option-length m (y .tokens) (y .rest) (y .passing), y .long) in
+    sym (big-append x (encode (s .back) ++ (255 ∷ y .rest)) at n l)
+    ∙ ap (λ (l : List ℕ). bigAt l at n) (sym (from-option m (y .tokens) (y .rest) (y .passing) 90 s))
+    ∙ big-from m (offsetOf 90 (y .tokens)) at n
+    ∙ ap (λ (o : ℕ). bigAt m (o + at) n) (sym (at-is m a e))
 
 pub form-says : FormSays
 form-says = record {
   said = said-form;
   name = named-form;
-  counter-there = λ m a e. fully m a e .counter-is ∙ sym (at-64 m (optionOf 90 (fully m a e .tokens)) (a .at + 5) 5 (λ k h. ap (λ (n : ℕ). getD m n 0) (add-assoc (a .at) 5 k) ∙ byte-there m a e (5 + k) (omega arith)));
-  id-there = λ m a e. fully m a e .id-is ∙ sym (at-32 m (optionOf 90 (fully m a e .tokens)) (a .at + 13) 13 (λ k h. ap (λ (n : ℕ). getD m n 0) (add-assoc (a .at) 13 k) ∙ byte-there m a e (13 + k) (omega arith)));
+  counter-there = λ m a e. fully m a e .counter-is ∙ number-there m a e 5 8 (omega arith);
+  id-there = λ m a e. fully m a e .id-is ∙ number-there m a e 13 4 (omega arith);
 }
 
 -- ---- the writers
+
+fields-long : (counter id : ℕ) → length (fields counter id) ≡ 12
+fields-long counter id = length-append (be 8 counter) (be 4 id) ∙ ap₂ (λ (m n : ℕ). m + n) (be-length 8 counter) (be-length 4 id)
 
 module _ (p : List ℕ) (counter id : ℕ) where
   pub fields-left : length p ≢ 28 → p ≡ fieldsPut p counter id
@@ -337,10 +337,10 @@ module _ (p : List ℕ) (counter id : ℕ) where
   unfolding fieldsPut
   fields-there h = rw (eq-eqb _ _ h)
 
-  pub fields-put : (p₁ p₂ p₃ : List ℕ) → length p ≡ 28 → p₁ ≡ written 0 (bytes32 (counter / 4294967296)) p → p₂ ≡ written 4 (bytes32 (counter % 4294967296)) p₁ → p₃ ≡ written 8 (bytes32 id) p₂ → p₃ ≡ fieldsPut p counter id
-  fields-put p₁ p₂ p₃ h e₁ e₂ e₃ =
-      e₃ ∙ ap (written 8 (bytes32 id)) (e₂ ∙ ap (written 4 (bytes32 (counter % 4294967296))) e₁ ∙ written-join 0 4 (bytes32 (counter / 4294967296)) (bytes32 (counter % 4294967296)) p refl (omega arith))
-      ∙ written-join 0 8 (bytes64 counter) (bytes32 id) p refl (omega arith)
+  pub fields-put : (p₁ p₂ : List ℕ) → length p ≡ 28 → p₁ ≡ written 0 (be 8 counter) p → p₂ ≡ written 8 (be 4 id) p₁ → p₂ ≡ fieldsPut p counter id
+  fields-put p₁ p₂ h e₁ e₂ =
+      e₂ ∙ ap (written 8 (be 4 id)) e₁
+      ∙ written-join 0 8 (be 8 counter) (be 4 id) p (zero-add _ ∙ be-length 8 counter) (omega arith)
       ∙ sym (fields-there h)
 
 module _ (p mac : List ℕ) where
@@ -352,8 +352,8 @@ module _ (p mac : List ℕ) where
   unfolding macPut
   mac-there h = rw (eq-eqb _ _ h)
 
-  pub mac-put : (p₁ : List ℕ) → length p ≡ 28 → length mac ≡ 16 → p₁ ≡ written 12 (take 16 (drop 0 mac)) p → p₁ ≡ macPut p mac
-  mac-put p₁ h n e = e ∙ ap (λ (x : List ℕ). written 12 x p) (take-all 16 mac (omega arith)) ∙ sym (mac-there h)
+  pub mac-put : (p₁ : List ℕ) → length p ≡ 28 → p₁ ≡ written 12 mac p → p₁ ≡ macPut p mac
+  mac-put p₁ h e = e ∙ sym (mac-there h)
 
 part-size : (m : List ℕ) (at size : ℕ) → size ≡ 28 → at + size ≤ length m → length (take size (drop at m)) ≡ 28
 part-size m at size s h = length-take-le size (drop at m) (rw length-drop (omega arith)) ∙ s
@@ -361,7 +361,7 @@ part-size m at size s h = length-take-le size (drop at m) (rw length-drop (omega
 lent-fields : (m : List ℕ) (at size counter id : ℕ) → size ≡ 28 → at + size ≤ length m → take at m ++ (fieldsPut (take size (drop at m)) counter id ++ drop size (drop at m)) ≡ written at (fields counter id) m
 lent-fields m at size counter id s h =
     ap (λ (x : List ℕ). take at m ++ (x ++ drop size (drop at m))) (fields-there (take size (drop at m)) counter id (part-size m at size s h))
-    ∙ written-part at size 0 (fields counter id) m h (omega arith)
+    ∙ written-part at size 0 (fields counter id) m h (omega (arith, fields-long counter id))
     ∙ ap (λ (n : ℕ). written n (fields counter id) m) (add-zero at)
 
 lent-mac : (m : List ℕ) (at size : ℕ) (mac : List ℕ) → size ≡ 28 → length mac ≡ 16 → at + size ≤ length m → take at m ++ (macPut (take size (drop at m)) mac ++ drop size (drop at m)) ≡ written (at + 12) mac m
@@ -372,21 +372,23 @@ lent-mac m at size mac s n h =
 lone-fields : (m : List ℕ) (at counter id : ℕ) → at + 28 ≤ length m → written at (fields counter id) m ≡ written at (fields counter id ++ take 16 (drop (at + 12) m)) m
 lone-fields m at counter id h =
     let f = fields counter id in
+    let lf = fields-long counter id in
     let w = written at f m in
     let l : length w ≡ length m = length-written at f m (omega arith) in
     let d : drop (at + 12) w ≡ drop (at + 12) m = drop-written (at + 12) at f m (omega arith) (omega arith) in
     sym (written-same (at + 12) 16 w (omega arith))
     ∙ ap (λ (x : List ℕ). written (at + 12) (take 16 x) w) d
-    ∙ written-join at (at + 12) f (take 16 (drop (at + 12) m)) m refl (omega arith)
+    ∙ written-join at (at + 12) f (take 16 (drop (at + 12) m)) m (omega arith) (omega arith)
 
-bytes-of-32 : (x : ℕ) → Bytes (bytes32 x)
-bytes-of-32 x = (omega arith, (omega arith, (omega arith, (omega arith, tt))))
+sealed-long : (counter id : ℕ) (mac : List ℕ) → length mac ≡ 16 → length (fields counter id ++ mac) ≡ 28
+sealed-long counter id mac h = length-append (fields counter id) mac ∙ ap₂ (λ (m n : ℕ). m + n) (fields-long counter id) h
 
-bytes-of-fields : (counter id : ℕ) → Bytes (fields counter id)
-bytes-of-fields counter id =
-    bytes-append (bytes64 counter) (bytes32 id)
-    (bytes-append (bytes32 (counter / 4294967296)) (bytes32 (counter % 4294967296)) (bytes-of-32 (counter / 4294967296)) (bytes-of-32 (counter % 4294967296)))
-    (bytes-of-32 id)
+image-any : (m : List ℕ) (a : Auth) (counter id : ℕ) (mac other : List ℕ) → formOf m ≡ Full a → length mac ≡ 16 → length other ≡ 16
+    → imageOf (sealedWith a (fields counter id ++ mac) m) ≡ imageOf (sealedWith a (fields counter id ++ other) m)
+image-any m a counter id mac other e h g =
+    let f = fields counter id in
+    let l = fields-long counter id in
+    sealed m a (f ++ mac) e (sealed-long counter id mac h) .image (f ++ other) (sealed-long counter id other g) (take-at f mac 12 l ∙ sym (take-at f other 12 l))
 
 pub seal-laws : SealLaws
 unfolding coverSize coverLeft coverBytes coverFits
@@ -395,12 +397,18 @@ seal-laws = record {
   covers = λ m a out e h. covers-full m a e out h;
   covers-offsets = λ m a counter id out. (refl, refl);
   seals = sealed;
-  counter-read = λ counter id mac h. read-64 counter [] h;
-  id-read = λ counter id mac h. read-32 id [] h;
-  mac-read = λ counter id mac. refl;
+  seal-size = sealed-long;
+  any-mac = image-any;
+  counter-read = λ counter id mac h.
+      ap (λ (s : List ℕ). bigAt s 0 8) (append-assoc (be 8 counter) (be 4 id) mac) ∙ big-be 8 counter (be 4 id ++ mac) h;
+  id-read = λ counter id mac h.
+      ap (λ (s : List ℕ). bigAt s 8 4) (append-assoc (be 8 counter) (be 4 id) mac)
+      ∙ ap (λ (n : ℕ). bigAt (be 8 counter ++ (be 4 id ++ mac)) n 4) (sym (ap (λ (n : ℕ). n + 0) (be-length 8 counter)))
+      ∙ big-behind (be 8 counter) (be 4 id ++ mac) 0 4 ∙ big-be 4 id mac h;
+  mac-read = λ counter id mac. drop-at (fields counter id) mac 12 (fields-long counter id);
   fields-lent = lent-fields;
   mac-lent = lent-mac;
   fields-alone = lone-fields;
-  bytes-kept = λ m at counter id mac b h. bytes-written at (fields counter id ++ mac) m (bytes-append (fields counter id) mac (bytes-of-fields counter id) b) h;
-  mac-behind = λ m at counter id mac h. written-join at (at + 12) (fields counter id) mac m refl (omega arith);
+  bytes-kept = λ m at counter id mac b h. bytes-written at (fields counter id ++ mac) m (bytes-append (fields counter id) mac (bytes-append (be 8 counter) (be 4 id) (bytes-be 8 counter) (bytes-be 4 id)) b) h;
+  mac-behind = λ m at counter id mac h. written-join at (at + 12) (fields counter id) mac m (ap (λ (n : ℕ). at + n) (fields-long counter id)) (omega arith);
 }

@@ -7,6 +7,8 @@ use mathlib.Core.Bool.{Bool, true, false, cond}
 use mathlib.Core.List.{List, [], _∷_, _++_, append-assoc}
 use native.Mathlib.Omega.{arith}
 use lib.ListN.{length}
+use Rattle.octets.specs.Bytes.{written}
+use Rattle.octets.proofs.Written.{written-left, written-right}
 use lib.Dec.{eqb}
 use borrow.Author.Tests.{ne-eqb, eq-eqb, eqb-true}
 use Rattle.dhcp_message.specs.Options.{Token, pad, opt, encode}
@@ -177,3 +179,13 @@ pub zero-none : (ts : List Token) → count 90 ts ≡ 0 → macZero ts ≡ ts
 zero-none [] z = refl
 zero-none (pad ∷ ts) z = ap (λ (us : List Token). pad ∷ us) (zero-none ts z)
 zero-none (opt e b ∷ ts) z = let h = no-hit 90 e ts (eqb e 90) refl z in rw (h .0) (ap (λ (us : List Token). opt e b ∷ us) (zero-none ts (h .1)))
+
+-- ---- an option's body
+
+-- bytes written inside a body, where the body stands behind code and length
+pub written-body : (at k c n : ℕ) (new pre b post : List ℕ) → length pre ≡ at → k + length new ≤ length b
+    → written (at + (2 + k)) new (pre ++ (c ∷ n ∷ (b ++ post))) ≡ pre ++ (c ∷ n ∷ (written k new b ++ post))
+written-body at k c n new pre b post h l =
+    ap (λ (i : ℕ). written (i + (2 + k)) new (pre ++ (c ∷ n ∷ (b ++ post)))) (sym h)
+    ∙ written-right (2 + k) new pre (c ∷ n ∷ (b ++ post))
+    ∙ ap (λ (x : List ℕ). pre ++ x) (written-right k new (c ∷ n ∷ []) (b ++ post) ∙ ap (λ (x : List ℕ). c ∷ n ∷ x) (written-left k new b post l))

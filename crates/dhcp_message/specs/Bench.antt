@@ -1,13 +1,12 @@
--- Bench examples 3 to 7 of document 01, of the definitions: from example 4 on a message is 236 zeros, the cookie and the named options. Then a
+-- Bench examples 3 to 7 (docs/RULES.md, 'Bench examples'): from example 4 on a message is 236 zeros, the cookie and the named options. Then a
 -- message whose bytes differ, with all that is read from it and written over it as bytes, so that every offset, size and code shows.
 use Prim.Native.Nat.{ℕ, _+_}
 use mathlib.Core.Path.{_≡_}
 use mathlib.Core.Logic.{_≢_}
 use mathlib.Core.List.{List, [], _∷_, _++_}
-use Rattle.refusal.specs.declared.Refusal.the-variants.{MessageSize, BrokenOptions, NoAuthentication, RelayInformation, OtherAuthentication, RequestForm}
 use Rattle.octets.specs.Bytes.{Bytes, zeros, upFrom}
 use Rattle.dhcp_message.specs.Layout.{cookieAt, magicCookie}
-use Rattle.dhcp_message.specs.Said.{refused, says, saidOf, formOf, formNumber}
+use Rattle.dhcp_message.specs.Said.{says, saidOf, formOf, formNumber}
 use Rattle.dhcp_message.specs.Image.{imageOf, coverSize}
 use Rattle.dhcp_message.specs.Relay.{RelayBody, Permitted}
 use Rattle.dhcp_message.specs.Seal.{fieldsPut, macPut, sealedWith}
@@ -24,15 +23,16 @@ fullAuth protocol counter id mac = 90 ∷ 31 ∷ protocol ∷ 1 ∷ 0 ∷ 0 ∷ 
 abbrev pub someMac : List ℕ
 someMac = 1 ∷ 2 ∷ 3 ∷ 4 ∷ 5 ∷ 6 ∷ 7 ∷ 8 ∷ 9 ∷ 10 ∷ 11 ∷ 12 ∷ 13 ∷ 14 ∷ 15 ∷ 16 ∷ []
 
+-- the number of each: that of the lowest of checks 2 to 9 that applies
 pub record BenchExamples : Type 0 where
-  pub example-3-short : saidOf (zeros 240) ≡ refused MessageSize
-  pub example-3-long : saidOf (zeros 1473) ≡ refused MessageSize
-  pub example-3-passes : saidOf (zeros 1472) ≢ refused MessageSize
-  pub example-4 : saidOf (messageOf (53 ∷ 1 ∷ 5 ∷ 255 ∷ [])) ≡ refused NoAuthentication
-  pub example-5 : saidOf (messageOf (90 ∷ 31 ∷ zeros 30)) ≡ refused BrokenOptions
-  pub example-6 : saidOf (messageOf (fullAuth 1 11 7 someMac ++ (82 ∷ 1 ∷ 9 ∷ 53 ∷ 1 ∷ 5 ∷ 255 ∷ []))) ≡ refused RelayInformation
-  pub example-7-request : saidOf (messageOf (90 ∷ 11 ∷ 1 ∷ 1 ∷ 0 ∷ (zeros 8 ++ (255 ∷ [])))) ≡ refused RequestForm
-  pub example-7-protocol : saidOf (messageOf (fullAuth 0 11 7 someMac ++ (255 ∷ []))) ≡ refused OtherAuthentication
+  pub example-3-short : formNumber (formOf (zeros 240)) ≡ 2
+  pub example-3-long : formNumber (formOf (zeros 1473)) ≡ 2
+  pub example-3-passes : formNumber (formOf (zeros 1472)) ≢ 2
+  pub example-4 : formNumber (formOf (messageOf (53 ∷ 1 ∷ 5 ∷ 255 ∷ []))) ≡ 5
+  pub example-5 : formNumber (formOf (messageOf (90 ∷ 31 ∷ zeros 30))) ≡ 4
+  pub example-6 : formNumber (formOf (messageOf (fullAuth 1 11 7 someMac ++ (82 ∷ 1 ∷ 9 ∷ 53 ∷ 1 ∷ 5 ∷ 255 ∷ [])))) ≡ 7
+  pub example-7-request : formNumber (formOf (messageOf (90 ∷ 11 ∷ 1 ∷ 1 ∷ 0 ∷ (zeros 8 ++ (255 ∷ []))))) ≡ 9
+  pub example-7-protocol : formNumber (formOf (messageOf (fullAuth 0 11 7 someMac ++ (255 ∷ [])))) ≡ 8
 
 -- ---- a message whose bytes differ
 

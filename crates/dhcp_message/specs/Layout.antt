@@ -63,8 +63,14 @@ methodAt = 2
 abbrev pub counterAt : ℕ
 counterAt = 5
 
+abbrev pub counterSize : ℕ
+counterSize = 8
+
 abbrev pub secretIdAt : ℕ
 secretIdAt = 13
+
+abbrev pub secretIdSize : ℕ
+secretIdSize = 4
 
 abbrev pub macAt : ℕ
 macAt = 17
@@ -74,7 +80,7 @@ macSize = 16
 
 -- counter and secret id together, and with the MAC: what a seal writes
 abbrev pub fieldsSize : ℕ
-fieldsSize = 12
+fieldsSize = counterSize + secretIdSize
 
 abbrev pub sealSize : ℕ
 sealSize = fieldsSize + macSize

@@ -1,5 +1,4 @@
 pub mod Layout
-pub mod Bytes
 pub mod Options
 pub mod Message
 pub mod Said

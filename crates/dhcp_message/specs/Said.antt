@@ -10,12 +10,13 @@ use lib.Dec.{eqb}
 use Rattle.refusal.specs.Number.{numberOf, done}
 use Rattle.refusal.specs.declared.Refusal.{Refusal}
 use Rattle.refusal.specs.declared.Refusal.the-variants.{OtherAuthentication, RequestForm}
-use Rattle.dhcp_message.specs.Layout.{relayCode, authCode, lengthAt, methodAt, counterAt, secretIdAt, macAt, macSize, fullLength, requestLength, delayed}
+use Rattle.dhcp_message.specs.Layout.{relayCode, authCode, lengthAt, methodAt, counterAt, counterSize, secretIdAt, secretIdSize}
+use Rattle.dhcp_message.specs.Layout.{macAt, macSize, fullLength, requestLength, delayed}
 use Rattle.octets.specs.Bytes.{starts}
-use Rattle.dhcp_message.specs.Bytes.{be32, be64}
+use Rattle.octets.specs.Numbers.{bigAt}
 use Rattle.dhcp_message.specs.Options.{Token}
 use Rattle.dhcp_message.specs.Message.{optionOf, offsetOf, Checked, stopped, passed, checkedOf}
-use Rattle.dhcp_message.specs.declared.Places.{Places}
+use Rattle.dhcp_message.specs.declared.scan.Places.{Places}
 use Rattle.dhcp_message.specs.declared.Auth.{Auth}
 use Rattle.dhcp_message.specs.declared.Form.{Form}
 use Rattle.dhcp_message.specs.declared.Form.the-variants.{Refused, Full}
@@ -34,7 +35,7 @@ saidFor false false method said = refused OtherAuthentication
 unfoldable pub saidBy : List ℕ → Said
 saidBy x =
     saidFor (eqb (getD x lengthAt 0) fullLength) (eqb (getD x lengthAt 0) requestLength) (starts delayed (drop methodAt x))
-    (says (be64 x counterAt) (be32 x secretIdAt) (take macSize (drop macAt x)))
+    (says (bigAt x counterAt counterSize) (bigAt x secretIdAt secretIdSize) (take macSize (drop macAt x)))
 
 abbrev pub saidIn : Checked → Said
 saidIn (stopped r) = refused r
@@ -88,5 +89,5 @@ formNames (Full a) = some (a .id)
 pub record FormSays : Type 0 where
   pub said : (m : List ℕ) → saidOf m ≡ formSays m (formOf m)
   pub name : (m : List ℕ) → named m ≡ formNames (formOf m)
-  pub counter-there : (m : List ℕ) (a : Auth) → formOf m ≡ Full a → a .counter ≡ be64 m (a .at + counterAt)
-  pub id-there : (m : List ℕ) (a : Auth) → formOf m ≡ Full a → a .id ≡ be32 m (a .at + secretIdAt)
+  pub counter-there : (m : List ℕ) (a : Auth) → formOf m ≡ Full a → a .counter ≡ bigAt m (a .at + counterAt) counterSize
+  pub id-there : (m : List ℕ) (a : Auth) → formOf m ≡ Full a → a .id ≡ bigAt m (a .at + secretIdAt) secretIdSize

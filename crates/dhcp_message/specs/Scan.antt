@@ -10,13 +10,13 @@ use Rattle.dhcp_message.specs.Layout.{headerSize, relayCode, authCode, o
 use Rattle.dhcp_message.specs.Options.{Token, pad, opt, Parsed, cut, parsed, Lead, nothing, end, token, lead, decode}
 use Rattle.dhcp_message.specs.Message.{Checked, stopped, passed, checkedOf}
 use Rattle.dhcp_message.specs.Said.{placesOf}
-use Rattle.dhcp_message.specs.declared.Here.{Here}
-use Rattle.dhcp_message.specs.declared.Here.the-variants.{Cut as HCut, End as HEnd, Pad as HPad, Opt as HOpt}
-use Rattle.dhcp_message.specs.declared.Tally.{Tally}
-use Rattle.dhcp_message.specs.declared.Scan.{Scan}
-use Rattle.dhcp_message.specs.declared.Scan.the-variants.{Cut as SCut, Whole as SWhole}
-use Rattle.dhcp_message.specs.declared.Shape.{Shape}
-use Rattle.dhcp_message.specs.declared.Shape.the-variants.{Refused as SRefused, Passed as SPassed}
+use Rattle.dhcp_message.specs.declared.scan.Here.{Here}
+use Rattle.dhcp_message.specs.declared.scan.Here.the-variants.{Cut as HCut, End as HEnd, Pad as HPad, Opt as HOpt}
+use Rattle.dhcp_message.specs.declared.scan.Tally.{Tally}
+use Rattle.dhcp_message.specs.declared.scan.Scan.{Scan}
+use Rattle.dhcp_message.specs.declared.scan.Scan.the-variants.{Cut as SCut, Whole as SWhole}
+use Rattle.dhcp_message.specs.declared.scan.Shape.{Shape}
+use Rattle.dhcp_message.specs.declared.scan.Shape.the-variants.{Refused as SRefused, Passed as SPassed}
 
 abbrev pub leadOf : List ℕ → Lead
 leadOf [] = nothing

@@ -6,9 +6,10 @@ use mathlib.Core.Bool.{cond}
 use mathlib.Core.List.{List, _++_}
 use lib.ListN.{length, take, drop}
 use lib.Dec.{eqb}
-use Rattle.dhcp_message.specs.Layout.{messageLeast, messageMost, headerSize, counterAt, macAt, macSize, fieldsSize, sealSize, fullSize}
+use Rattle.dhcp_message.specs.Layout.{messageLeast, messageMost, headerSize, counterAt, counterSize, secretIdSize}
+use Rattle.dhcp_message.specs.Layout.{macAt, macSize, fieldsSize, sealSize, fullSize}
 use Rattle.octets.specs.Bytes.{Bytes, written}
-use Rattle.dhcp_message.specs.Bytes.{be32, be64, bytes32, bytes64}
+use Rattle.octets.specs.Numbers.{be, bigAt}
 use Rattle.dhcp_message.specs.Message.{Passes27}
 use Rattle.dhcp_message.specs.Said.{says, saidOf, formOf}
 use Rattle.dhcp_message.specs.Image.{imageOf, coverSize, coverLeft}
@@ -17,7 +18,7 @@ use Rattle.dhcp_message.specs.declared.Form.the-variants.{Full}
 
 -- counter and id as they stand in option 90
 abbrev pub fields : ℕ → ℕ → List ℕ
-fields counter id = bytes64 counter ++ bytes32 id
+fields counter id = be counterSize counter ++ be secretIdSize id
 
 -- a part of the 28 bytes with counter and id written, the MAC as it was; another part is left as it is
 unfoldable pub fieldsPut : List ℕ → ℕ → ℕ → List ℕ
@@ -49,8 +50,8 @@ pub record FullForm (m : List ℕ) (a : Auth) : Type 0 where
 
 -- what holds of the message with these bytes new: the seal's are counter, id and MAC one after another
 pub record Sealed (m : List ℕ) (a : Auth) (new : List ℕ) : Type 0 where
-  pub form : formOf (sealedWith a new m) ≡ Full (withFields a (be64 new 0) (be32 new 8))
-  pub said : saidOf (sealedWith a new m) ≡ says (be64 new 0) (be32 new 8) (drop fieldsSize new)
+  pub form : formOf (sealedWith a new m) ≡ Full (withFields a (bigAt new 0 counterSize) (bigAt new counterSize secretIdSize))
+  pub said : saidOf (sealedWith a new m) ≡ says (bigAt new 0 counterSize) (bigAt new counterSize secretIdSize) (drop fieldsSize new)
   pub size : length (sealedWith a new m) ≡ length m
   pub image : (other : List ℕ) → length other ≡ sealSize → take fieldsSize new ≡ take fieldsSize other → imageOf (sealedWith a new m) ≡ imageOf (sealedWith a other m)
   pub again : (other : List ℕ) → length other ≡ sealSize → sealedWith a other (sealedWith a new m) ≡ sealedWith a other m
@@ -62,8 +63,12 @@ pub record SealLaws : Type 0 where
   pub covers : (m : List ℕ) (a : Auth) (out : List ℕ) → formOf m ≡ Full a → length m ≤ length out → (coverSize m a out ≡ length (imageOf m)) × (coverLeft m a out ≡ imageOf m ++ drop (length (imageOf m)) out)
   pub covers-offsets : (m : List ℕ) (a : Auth) (counter id : ℕ) (out : List ℕ) → (coverSize m (withFields a counter id) out ≡ coverSize m a out) × (coverLeft m (withFields a counter id) out ≡ coverLeft m a out)
   pub seals : (m : List ℕ) (a : Auth) (new : List ℕ) → formOf m ≡ Full a → length new ≡ sealSize → Sealed m a new
-  pub counter-read : (counter id : ℕ) (mac : List ℕ) → counter < 2 ^ 64 → be64 (fields counter id ++ mac) 0 ≡ counter
-  pub id-read : (counter id : ℕ) (mac : List ℕ) → id < 2 ^ 32 → be32 (fields counter id ++ mac) 8 ≡ id
+  -- counter, id and MAC take the 28 bytes, and whatever MAC stands there, the image is the same
+  pub seal-size : (counter id : ℕ) (mac : List ℕ) → length mac ≡ macSize → length (fields counter id ++ mac) ≡ sealSize
+  pub any-mac : (m : List ℕ) (a : Auth) (counter id : ℕ) (mac other : List ℕ) → formOf m ≡ Full a → length mac ≡ macSize → length other ≡ macSize
+      → imageOf (sealedWith a (fields counter id ++ mac) m) ≡ imageOf (sealedWith a (fields counter id ++ other) m)
+  pub counter-read : (counter id : ℕ) (mac : List ℕ) → counter < 2 ^ 64 → bigAt (fields counter id ++ mac) 0 counterSize ≡ counter
+  pub id-read : (counter id : ℕ) (mac : List ℕ) → id < 2 ^ 32 → bigAt (fields counter id ++ mac) counterSize secretIdSize ≡ id
   pub mac-read : (counter id : ℕ) (mac : List ℕ) → drop fieldsSize (fields counter id ++ mac) ≡ mac
   -- the part of the 28 bytes lent to each writer in turn: nothing else of the message changes
   pub fields-lent : (m : List ℕ) (at size counter id : ℕ) → size ≡ sealSize → at + size ≤ length m → take at m ++ (fieldsPut (take size (drop at m)) counter id ++ drop size (drop at m)) ≡ written at (fields counter id) m

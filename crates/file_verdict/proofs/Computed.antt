@@ -4,6 +4,7 @@ use mathlib.Core.Path.{_≡_, refl}
 use mathlib.Core.Option.{some}
 use native.Mathlib.Omega.{arith}
 use lib.ListN.{replicate, length-replicate}
+use Rattle.octets.specs.Numbers.{bigAt}
 use Rattle.refusal.specs.declared.Refusal.the-variants.{Replay, WrongMac}
 use Rattle.md5.specs.Word.{rotl, auxiliary, wordNo, additive, rotations}
 use Rattle.md5.specs.Block.{stepWith, stepAt, steps, round, compress, wordAt, loadTo, load, blocks}
@@ -27,20 +28,20 @@ use Rattle.file_verdict.proofs.Contents.{readable-fits, readable-too-la
 
 put-right : lineFor (some cardB) (some (messageWith 11 105)) ≡ Accepted 0 11
 unfolding hmac masked md5 padded padding blocks compress round steps stepAt stepWith rotl auxiliary wordNo additive rotations load loadTo wordAt
-    output saidOf checkedOf checkedTokens decodeAt saidBy formOf imageOf written sound sized ascending keySizes allBelow placeFrom rowIn keyFits keyIn
+    output saidOf checkedOf checkedTokens decodeAt saidBy bigAt formOf imageOf written sound sized ascending keySizes allBelow placeFrom rowIn keyFits keyIn
     sameBytes judgedRow judgedSaid judgedSound checkOf value numberAt frontOf frontFrom rowsInFront readCard slotOf slotsOf laid loaded readOf rowsIn
     readBook readable loadedOf bookLoaded messageLine lineFor
 put-right = refl
 
 mac-bit-off : lineFor (some cardB) (some (messageWith 11 104)) ≡ Refused WrongMac
 unfolding hmac masked md5 padded padding blocks compress round steps stepAt stepWith rotl auxiliary wordNo additive rotations load loadTo wordAt
-    output saidOf checkedOf checkedTokens decodeAt saidBy formOf imageOf written sound sized ascending keySizes allBelow placeFrom rowIn keyFits keyIn
+    output saidOf checkedOf checkedTokens decodeAt saidBy bigAt formOf imageOf written sound sized ascending keySizes allBelow placeFrom rowIn keyFits keyIn
     sameBytes judgedRow judgedSaid judgedSound checkOf value numberAt frontOf frontFrom rowsInFront readCard slotOf slotsOf laid loaded readOf rowsIn
     readBook readable loadedOf bookLoaded messageLine lineFor
 mac-bit-off = refl
 
 old-counter : lineFor (some cardB) (some (messageWith 10 105)) ≡ Refused Replay
-unfolding saidOf checkedOf checkedTokens decodeAt saidBy formOf imageOf written sound sized ascending keySizes allBelow placeFrom rowIn keyFits keyIn
+unfolding saidOf checkedOf checkedTokens decodeAt saidBy bigAt formOf imageOf written sound sized ascending keySizes allBelow placeFrom rowIn keyFits keyIn
     sameBytes judgedRow judgedSaid judgedSound checkOf value numberAt frontOf frontFrom rowsInFront readCard slotOf slotsOf laid loaded readOf rowsIn
     readBook readable loadedOf bookLoaded messageLine lineFor
 old-counter = refl

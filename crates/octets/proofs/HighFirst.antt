@@ -1,12 +1,12 @@
 -- Numbers with the highest byte first, of any width: a number's bytes give it back, and the number depends on its bytes alone.
 use mathlib.Core.Path.{_≡_, refl, sym, ap, ap₂, _∙_}
 use mathlib.Core.List.{List, [], _∷_, _++_, append-assoc}
-use Prim.Native.Nat.{ℕ, zero, suc, _+_, _*_, _/_, _%_, _^_, _<_}
-use native.Mathlib.Nat.{zero-add, pow-zero, pow-suc, div-lt-iff-lt-mul, mod-add-div, mod-lt}
+use Prim.Native.Nat.{ℕ, zero, suc, _+_, _*_, _/_, _%_, _^_, _≤_, _<_}
+use native.Mathlib.Nat.{add-assoc, zero-add, pow-zero, pow-suc, div-lt-iff-lt-mul, mod-add-div, mod-lt}
 use native.Mathlib.Numerals.{add-one}
 use native.Mathlib.Omega.{arith}
-use lib.ListN.{length, getD, length-append}
-use lib.Seq.{getD-append-seam}
+use lib.ListN.{length, drop, getD, length-append, List·getD-append}
+use lib.Seq.{drop-at, getD-drop, getD-append-seam}
 use Rattle.octets.specs.Bytes.{Bytes}
 use Rattle.octets.specs.Numbers.{be, bigAt}
 use Rattle.octets.proofs.Elements.{bytes-at, bytes-append}
@@ -48,3 +48,15 @@ big-be (suc n) x t h =
     ap₂ (λ (s : List ℕ) (k : ℕ). getD s k 0 + 256 * bigAt s 0 n) a (zero-add n)
     ∙ ap₂ (λ (p q : ℕ). p + 256 * q) g (big-be n y (x % 256 ∷ t) l)
     ∙ mod-add-div x 256
+
+-- from an offset on, behind other bytes, and before others
+pub big-from : (s : List ℕ) (at more n : ℕ) → bigAt (drop at s) more n ≡ bigAt s (at + more) n
+big-from s at more n =
+    big-same (drop at s) s more (at + more) n
+    (λ k h. getD-drop at s (more + k) 0 ∙ ap (λ (i : ℕ). getD s i 0) (sym (add-assoc at more k)))
+
+pub big-behind : (p s : List ℕ) (at n : ℕ) → bigAt (p ++ s) (length p + at) n ≡ bigAt s at n
+big-behind p s at n = sym (big-from (p ++ s) (length p) at n) ∙ ap (λ (l : List ℕ). bigAt l at n) (drop-at p s (length p) refl)
+
+pub big-append : (s t : List ℕ) (at n : ℕ) → at + n ≤ length s → bigAt (s ++ t) at n ≡ bigAt s at n
+big-append s t at n h = big-same (s ++ t) s at at n (λ k l. List·getD-append s t 0 (at + k) (omega arith))

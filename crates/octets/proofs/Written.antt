@@ -171,3 +171,8 @@ copied-part at k new part old h e p =
     ap (λ (x : List ℕ). take at old ++ (x ++ drop k (drop at old))) w
     ∙ written-part at k 0 new old (omega arith) (omega arith)
     ∙ ap (λ (n : ℕ). written n new old) (add-zero at)
+
+-- at the front of a list
+pub written-front : (new old : List ℕ) → written 0 new old ≡ new ++ drop (length new) old
+unfolding written
+written-front new old = ap (λ (n : ℕ). new ++ drop n old) (zero-add (length new))

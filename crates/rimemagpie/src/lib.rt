@@ -1,4 +1,5 @@
-// The library as C calls it (include/rimemagpie.h): every entry as an exported function, with the number of document 01 as its result.
+// The library as C calls it: every entry as an exported function, with its number (docs/RULES.md, 'Numbers') as its result. Names are those of
+// include/rimemagpie.h, for parameters too.
 // Each takes its answer apart and adds nothing of its own. The book is lent as in delayed_auth; a further result goes to a lent place,
 // which a refusal leaves as it was.
 //
@@ -10,7 +11,7 @@ ghost use Rattle.hmac_md5.specs.Hmac.{hmacOf};
 ghost use Rattle.key_book.specs.Book.{bookOf};
 ghost use Rattle.delayed_auth.specs.Check.{checkOf, receivedAfter, verdictNumber};
 ghost use Rattle.delayed_auth.specs.Key.{keyedOf, keyNumber};
-ghost use Rattle.delayed_auth.specs.Seal.{sealOf, messageAfter, sentAfter, outcomeNumber};
+ghost use Rattle.delayed_auth.specs.Seal.{sealOf, sealingOf, messageAfter, sentAfter, outcomeNumber};
 ghost use Rattle.book_card.specs.Reading.{readOf, readBook, rowsGiven, readNumber};
 ghost use Rattle.book_card.specs.Writing.{writeOf, roomAfter, writeNumber};
 ghost use Rattle.rimemagpie.specs.Places.{rowPlace, counterPlace, offsetPlace, sizePlace, sealedPlace, rowsPlace, cardPlace};
@@ -57,10 +58,22 @@ pub extern "C" fn rimemagpie_check(
     row: &mut u64,
     counter: &mut u64,
 ) -> u8
-    ensures number { λ r. ⌜ r ≡ verdictNumber (checkOf (bookOf (now (ids .entry)) (now (lengths .entry)) (now (store .entry)) (now (received .entry)) (now (sent .entry)) rows) (now (message .entry))) ⌝ }
-    ensures stored { λ _. ⌜ now (received .exit) ≡ receivedAfter (checkOf (bookOf (now (ids .entry)) (now (lengths .entry)) (now (store .entry)) (now (received .entry)) (now (sent .entry)) rows) (now (message .entry))) (now (received .entry)) ⌝ }
-    ensures row { λ _. ⌜ now (row .exit) ≡ rowPlace (checkOf (bookOf (now (ids .entry)) (now (lengths .entry)) (now (store .entry)) (now (received .entry)) (now (sent .entry)) rows) (now (message .entry))) (now (row .entry)) ⌝ }
-    ensures counter { λ _. ⌜ now (counter .exit) ≡ counterPlace (checkOf (bookOf (now (ids .entry)) (now (lengths .entry)) (now (store .entry)) (now (received .entry)) (now (sent .entry)) rows) (now (message .entry))) (now (counter .entry)) ⌝ }
+    ensures number { λ r. ⌜
+        (let b = bookOf (now (ids .entry)) (now (lengths .entry)) (now (store .entry)) (now (received .entry)) (now (sent .entry)) rows in
+        r ≡ verdictNumber (checkOf b (now (message .entry))))
+        ⌝ }
+    ensures stored { λ _. ⌜
+        (let b = bookOf (now (ids .entry)) (now (lengths .entry)) (now (store .entry)) (now (received .entry)) (now (sent .entry)) rows in
+        now (received .exit) ≡ receivedAfter (checkOf b (now (message .entry))) (now (received .entry)))
+        ⌝ }
+    ensures row { λ _. ⌜
+        (let b = bookOf (now (ids .entry)) (now (lengths .entry)) (now (store .entry)) (now (received .entry)) (now (sent .entry)) rows in
+        now (row .exit) ≡ rowPlace (now (row .entry)) (checkOf b (now (message .entry))))
+        ⌝ }
+    ensures counter { λ _. ⌜
+        (let b = bookOf (now (ids .entry)) (now (lengths .entry)) (now (store .entry)) (now (received .entry)) (now (sent .entry)) rows in
+        now (counter .exit) ≡ counterPlace (now (counter .entry)) (checkOf b (now (message .entry))))
+        ⌝ }
 {
     let verdict = delayed_auth::check(ids, lengths, store, received, sent, rows, message);
     match verdict {
@@ -86,9 +99,18 @@ pub extern "C" fn rimemagpie_key(
     offset: &mut u64,
     size: &mut u64,
 ) -> u8
-    ensures number { λ r. ⌜ r ≡ keyNumber (keyedOf (bookOf (now (ids .entry)) (now (lengths .entry)) (now (store .entry)) (now (received .entry)) (now (sent .entry)) rows) (now (message .entry))) ⌝ }
-    ensures offset { λ _. ⌜ now (offset .exit) ≡ offsetPlace (keyedOf (bookOf (now (ids .entry)) (now (lengths .entry)) (now (store .entry)) (now (received .entry)) (now (sent .entry)) rows) (now (message .entry))) (now (offset .entry)) ⌝ }
-    ensures size { λ _. ⌜ now (size .exit) ≡ sizePlace (bookOf (now (ids .entry)) (now (lengths .entry)) (now (store .entry)) (now (received .entry)) (now (sent .entry)) rows) (keyedOf (bookOf (now (ids .entry)) (now (lengths .entry)) (now (store .entry)) (now (received .entry)) (now (sent .entry)) rows) (now (message .entry))) (now (size .entry)) ⌝ }
+    ensures number { λ r. ⌜
+        (let b = bookOf (now (ids .entry)) (now (lengths .entry)) (now (store .entry)) (now (received .entry)) (now (sent .entry)) rows in
+        r ≡ keyNumber (keyedOf b (now (message .entry))))
+        ⌝ }
+    ensures offset { λ _. ⌜
+        (let b = bookOf (now (ids .entry)) (now (lengths .entry)) (now (store .entry)) (now (received .entry)) (now (sent .entry)) rows in
+        now (offset .exit) ≡ offsetPlace (now (offset .entry)) (keyedOf b (now (message .entry))))
+        ⌝ }
+    ensures size { λ _. ⌜
+        (let b = bookOf (now (ids .entry)) (now (lengths .entry)) (now (store .entry)) (now (received .entry)) (now (sent .entry)) rows in
+        now (size .exit) ≡ sizePlace b (now (size .entry)) (keyedOf b (now (message .entry))))
+        ⌝ }
 {
     let keyed = delayed_auth::named_row(ids, lengths, store, received, sent, rows, message);
     match keyed {
@@ -115,10 +137,22 @@ pub extern "C" fn rimemagpie_seal(
     message: &mut [u8],
     counter: &mut u64,
 ) -> u8
-    ensures number { λ r. ⌜ r ≡ outcomeNumber (sealOf (bookOf (now (ids .entry)) (now (lengths .entry)) (now (store .entry)) (now (received .entry)) (now (sent .entry)) rows) id (now (message .entry))) ⌝ }
-    ensures sealed { λ _. ⌜ now (message .exit) ≡ messageAfter (sealOf (bookOf (now (ids .entry)) (now (lengths .entry)) (now (store .entry)) (now (received .entry)) (now (sent .entry)) rows) id (now (message .entry))) (now (message .entry)) ⌝ }
-    ensures stored { λ _. ⌜ now (sent .exit) ≡ sentAfter (sealOf (bookOf (now (ids .entry)) (now (lengths .entry)) (now (store .entry)) (now (received .entry)) (now (sent .entry)) rows) id (now (message .entry))) (now (sent .entry)) ⌝ }
-    ensures counter { λ _. ⌜ now (counter .exit) ≡ sealedPlace (sealOf (bookOf (now (ids .entry)) (now (lengths .entry)) (now (store .entry)) (now (received .entry)) (now (sent .entry)) rows) id (now (message .entry))) (now (counter .entry)) ⌝ }
+    ensures number { λ r. ⌜
+        (let b = bookOf (now (ids .entry)) (now (lengths .entry)) (now (store .entry)) (now (received .entry)) (now (sent .entry)) rows in
+        r ≡ outcomeNumber (sealOf b id (now (message .entry))))
+        ⌝ }
+    ensures sealed { λ _. ⌜
+        (let b = bookOf (now (ids .entry)) (now (lengths .entry)) (now (store .entry)) (now (received .entry)) (now (sent .entry)) rows in
+        now (message .exit) ≡ messageAfter (sealOf b id (now (message .entry))) (now (message .entry)))
+        ⌝ }
+    ensures stored { λ _. ⌜
+        (let b = bookOf (now (ids .entry)) (now (lengths .entry)) (now (store .entry)) (now (received .entry)) (now (sent .entry)) rows in
+        now (sent .exit) ≡ sentAfter (sealOf b id (now (message .entry))) (now (sent .entry)))
+        ⌝ }
+    ensures counter { λ _. ⌜
+        (let b = bookOf (now (ids .entry)) (now (lengths .entry)) (now (store .entry)) (now (received .entry)) (now (sent .entry)) rows in
+        now (counter .exit) ≡ sealedPlace (now (counter .entry)) (sealingOf (sealOf b id (now (message .entry)))))
+        ⌝ }
 {
     let sealing = delayed_auth::seal(ids, lengths, store, received, sent, rows, id, message);
     match sealing {
@@ -141,9 +175,19 @@ pub extern "C" fn rimemagpie_card_read(
     sent: &mut [u64],
     rows: &mut u64,
 ) -> u8
-    ensures number { λ r. ⌜ r ≡ readNumber (readOf (bookOf (now (ids .entry)) (now (lengths .entry)) (now (store .entry)) (now (received .entry)) (now (sent .entry)) 0) (now (card .entry))) ⌝ }
-    ensures book { λ _. ⌜ bookOf (now (ids .exit)) (now (lengths .exit)) (now (store .exit)) (now (received .exit)) (now (sent .exit)) (rowsGiven (readOf (bookOf (now (ids .entry)) (now (lengths .entry)) (now (store .entry)) (now (received .entry)) (now (sent .entry)) 0) (now (card .entry)))) ≡ readBook (bookOf (now (ids .entry)) (now (lengths .entry)) (now (store .entry)) (now (received .entry)) (now (sent .entry)) 0) (now (card .entry)) ⌝ }
-    ensures rows { λ _. ⌜ now (rows .exit) ≡ rowsPlace (readOf (bookOf (now (ids .entry)) (now (lengths .entry)) (now (store .entry)) (now (received .entry)) (now (sent .entry)) 0) (now (card .entry))) (now (rows .entry)) ⌝ }
+    ensures number { λ r. ⌜
+        (let b = bookOf (now (ids .entry)) (now (lengths .entry)) (now (store .entry)) (now (received .entry)) (now (sent .entry)) 0 in
+        r ≡ readNumber (readOf b (now (card .entry))))
+        ⌝ }
+    ensures book { λ _. ⌜
+        (let b = bookOf (now (ids .entry)) (now (lengths .entry)) (now (store .entry)) (now (received .entry)) (now (sent .entry)) 0 in
+        bookOf (now (ids .exit)) (now (lengths .exit)) (now (store .exit)) (now (received .exit)) (now (sent .exit)) (rowsGiven (readOf b (now (card .entry))))
+        ≡ readBook b (now (card .entry)))
+        ⌝ }
+    ensures rows { λ _. ⌜
+        (let b = bookOf (now (ids .entry)) (now (lengths .entry)) (now (store .entry)) (now (received .entry)) (now (sent .entry)) 0 in
+        now (rows .exit) ≡ rowsPlace (now (rows .entry)) (readOf b (now (card .entry))))
+        ⌝ }
 {
     let answer = book_card::card_read(card, ids, lengths, store, received, sent);
     match answer {
@@ -167,9 +211,18 @@ pub extern "C" fn rimemagpie_card_write(
     card: &mut [u8],
     size: &mut u64,
 ) -> u8
-    ensures number { λ r. ⌜ r ≡ writeNumber (writeOf (bookOf (now (ids .entry)) (now (lengths .entry)) (now (store .entry)) (now (received .entry)) (now (sent .entry)) rows) (length (now (card .entry)))) ⌝ }
-    ensures room { λ _. ⌜ now (card .exit) ≡ roomAfter (bookOf (now (ids .entry)) (now (lengths .entry)) (now (store .entry)) (now (received .entry)) (now (sent .entry)) rows) (now (card .entry)) ⌝ }
-    ensures size { λ _. ⌜ now (size .exit) ≡ cardPlace (writeOf (bookOf (now (ids .entry)) (now (lengths .entry)) (now (store .entry)) (now (received .entry)) (now (sent .entry)) rows) (length (now (card .entry)))) (now (size .entry)) ⌝ }
+    ensures number { λ r. ⌜
+        (let b = bookOf (now (ids .entry)) (now (lengths .entry)) (now (store .entry)) (now (received .entry)) (now (sent .entry)) rows in
+        r ≡ writeNumber (writeOf b (length (now (card .entry)))))
+        ⌝ }
+    ensures room { λ _. ⌜
+        (let b = bookOf (now (ids .entry)) (now (lengths .entry)) (now (store .entry)) (now (received .entry)) (now (sent .entry)) rows in
+        now (card .exit) ≡ roomAfter b (now (card .entry)))
+        ⌝ }
+    ensures size { λ _. ⌜
+        (let b = bookOf (now (ids .entry)) (now (lengths .entry)) (now (store .entry)) (now (received .entry)) (now (sent .entry)) rows in
+        now (size .exit) ≡ cardPlace (now (size .entry)) (writeOf b (length (now (card .entry)))))
+        ⌝ }
 {
     let answer = book_card::card_write(ids, lengths, store, received, sent, rows, card);
     match answer {

@@ -1,67 +1,42 @@
--- `delayed_auth::mac_of` meets its contract: `cover` leaves the image in front of a buffer that has room for any message.
-use Prim.Native.Nat.{ℕ, _≤_}
+-- `delayed_auth::mac_of` meets its contract: `cover` leaves the image in front of a buffer that has room for any message (proofs/Macs.antt).
 use mathlib.Core.Path.{sym, ap, _∙_}
-use mathlib.Core.List.{List}
-use lib.ListN.{length, replicate, length-replicate}
+use Prim.Native.Nat.{_≤_}
 use lib.Seq.{length-take-le}
-use Rattle.hmac_md5.specs.Hmac.{hmacOf}
 use Rattle.hmac_md5.specs.declared.Mac.{Mac}
-use Rattle.dhcp_message.proofs.Seals.{full-form}
-use Rattle.delayed_auth.proofs.Macs.{image-size, image-short, image-front, mac-right}
+use Rattle.dhcp_message.specs.Layout.{messageMost}
+use Rattle.delayed_auth.proofs.Macs.{cover-short, cover-front, mac-right}
 use borrow.Author.Needs.{needs}
 use native.Mathlib.Omega.{arith}
 use Rattle.delayed_auth.proofs.mac_of.Statement.{statement}
 use Rattle.delayed_auth.proofs.mac_of.Tie as tie
-use Rattle.dhcp_message.proofs.cover.Reads as cover-reads
-use Rattle.hmac_md5.proofs.hmac.Reads as hmac-reads
 
-room : (m : List ℕ) → length m ≤ 1472 → length m ≤ length (replicate {A = ℕ} 1472 0)
-room m h = rw (length-replicate {A = ℕ} 1472 0) h
+abbrev start : tie.After-cover → tie.Start
+start c = c .before .before .before .before
 
-slice-aggregate-cover : tie.Need-slice-aggregate-cover
-slice-aggregate-cover c = search needs
-
-cover-requires : tie.Need-cover-requires
-cover-requires c κs = search needs
+short : (c : tie.After-cover) → c .cover .result ≤ messageMost
+short c = cover-short _ _ (start c .pre .0) _ (c .cover .ensures .0)
 
 array-share-prefix-image : tie.Need-array-share-prefix-image
-array-share-prefix-image c = let s = c .before .before .before .before .before in
-    let m = s .args .message .now in
-    let f = full-form m (s .args .auth) (s .pre .0) in
-    let e = c .before .cover .ensures in
-    let z = image-size m (s .args .auth) (replicate 1472 0) (s .pre .0) (room m (f .most)) in
-    let i = image-short m (s .args .auth) (replicate 1472 0) (s .pre .0) (room m (f .most)) in
-    omega (arith, c .before .cover .kept .1 .1 .0, f .most, e .0)
+array-share-prefix-image c = omega (arith, c .before .cover .kept .1 .1 .0, short (c .before))
 
 slice-aggregate-hmac : tie.Need-slice-aggregate-hmac
-slice-aggregate-hmac c = let s = c .before .before .before .before .before .before in
-    let m = s .args .message .now in
-    let f = full-form m (s .args .auth) (s .pre .0) in
-    let e = c .before .before .cover .ensures in
-    let z = image-size m (s .args .auth) (replicate 1472 0) (s .pre .0) (room m (f .most)) in
-    let i = image-short m (s .args .auth) (replicate 1472 0) (s .pre .0) (room m (f .most)) in
-    sym (length-take-le _ _ (omega (arith, c .before .before .cover .kept .1 .1 .0, f .most, e .0)))
-
-hmac-requires : tie.Need-hmac-requires
-hmac-requires c κs = search needs
+slice-aggregate-hmac c = let d = c .before .before in sym (length-take-le _ _ (omega (arith, d .cover .kept .1 .1 .0, short d)))
 
 returns : tie.Need-returns
-returns c = let s = c .before .before .before .before .before .before .before .before in
-    let k = s .args .key .now in
-    let m = s .args .message .now in
-    let f = full-form m (s .args .auth) (s .pre .0) in
-    let e = c .before .before .before .before .cover .ensures in
-    ap (λ (r : Mac). r .mac)
-    (c .before .hmac .ensures ∙ ap (hmacOf k) (image-front m (s .args .auth) (replicate 1472 0) (s .pre .0) (room m (f .most)) _ _ (e .0) (e .1)))
-    ∙ mac-right k m (s .args .auth) (s .pre .0) (s .pre .1)
+returns c =
+    let d = c .before .before .before .before in
+    let s = start d in
+    let e = d .cover .ensures in
+    ap (λ (r : Mac). r .mac) (c .before .hmac .ensures)
+    ∙ mac-right _ _ (s .pre .0) _ _ (s .pre .1) (cover-front _ _ (s .pre .0) _ _ (e .0) (e .1))
 
 pub mac-of-spec : {M : Type 1} → statement M
 mac-of-spec =
     tie.close
     (tie.spec
-    slice-aggregate-cover
-    cover-requires
+    (search needs)
+    (search needs)
     array-share-prefix-image
     slice-aggregate-hmac
-    hmac-requires
+    (search needs)
     returns)

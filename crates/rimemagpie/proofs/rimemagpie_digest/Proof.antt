@@ -5,11 +5,8 @@ use borrow.Author.Needs.{needs}
 use Rattle.rimemagpie.proofs.rimemagpie_digest.Statement.{statement}
 use Rattle.rimemagpie.proofs.rimemagpie_digest.Tie as tie
 
-md5-requires : tie.Need-md5-requires
-md5-requires c κs = search needs
-
 returns : tie.Need-returns
 returns c = (ap (λ (f : Finished). f .number) (c .before .md5 .ensures), ap (λ (f : Finished). f .digest) (c .before .md5 .ensures))
 
 pub rimemagpie-digest-spec : {M : Type 1} → statement M
-rimemagpie-digest-spec = tie.close (tie.spec md5-requires returns)
+rimemagpie-digest-spec = tie.close (tie.spec (search needs) returns)

@@ -5,11 +5,8 @@ use borrow.Author.Needs.{needs}
 use Rattle.rimemagpie.proofs.rimemagpie_hmac.Statement.{statement}
 use Rattle.rimemagpie.proofs.rimemagpie_hmac.Tie as tie
 
-hmac-requires : tie.Need-hmac-requires
-hmac-requires c κs = search needs
-
 returns : tie.Need-returns
 returns c = (ap (λ (m : Mac). m .number) (c .before .hmac .ensures), ap (λ (m : Mac). m .mac) (c .before .hmac .ensures))
 
 pub rimemagpie-hmac-spec : {M : Type 1} → statement M
-rimemagpie-hmac-spec = tie.close (tie.spec hmac-requires returns)
+rimemagpie-hmac-spec = tie.close (tie.spec (search needs) returns)

@@ -1,0 +1,117 @@
+// Check: judges a message by 1 to 12, and stores the counter of an accepted one. docs/RULES.md, 'Check'; RFC 3118, section 5.3.
+ghost use mathlib.Core.Path.{_≡_};
+ghost use lib.ListN.{length};
+ghost use Rattle.dhcp_message.specs.Layout.{macSize};
+ghost use Rattle.key_book.specs.Book.{bookOf};
+ghost use Rattle.delayed_auth.specs.Admit.{admittedForm};
+ghost use Rattle.delayed_auth.specs.Check.{sameBytes, checkOf, receivedAfter};
+use crate::Verdict;
+use crate::admitted;
+use crate::mac_of;
+use dhcp_message::Auth;
+use dhcp_message::Form;
+use key_book::Found;
+use refusal::Refusal;
+
+// Whether two MACs agree. Every byte is looked at, so that the time says nothing about where they differ.
+fn same_mac(a: [u8; 16], b: &[u8]) -> bool
+    requires { ⌜ length (now b) ≡ macSize ⌝ }
+    ensures { λ r. ⌜ r ≡ sameBytes (now (b .entry)) a ⌝ }
+{
+    let mut same = true;
+    let mut i: usize = 0;
+    while i < dhcp_message::MAC_SIZE {
+        same = same & (b[i] == a[i]);
+        i += 1;
+    }
+    same
+}
+
+// 10 to 12, of a message that passes 1 to 9. The counter is looked at before the MAC is computed (RFC 3118, section 5.3). It must be above the
+// stored one: with replay method 0 the counter rises with every message (RFC 3118, section 2), and the stored one was accepted already, so an
+// equal one is that message again.
+fn judged_full(
+    ids: &[u32],
+    lengths: &[u8],
+    store: &[u8],
+    received: &[u64],
+    sent: &[u64],
+    rows: usize,
+    message: &[u8],
+    auth: Auth,
+) -> Verdict
+    requires { ⌜
+        (let b = bookOf (now ids) (now lengths) (now store) (now received) (now sent) rows in
+        Form.Full auth ≡ admittedForm b (now message))
+        ⌝ }
+    ensures { λ r. ⌜
+        (let b = bookOf (now (ids .entry)) (now (lengths .entry)) (now (store .entry)) (now (received .entry)) (now (sent .entry)) rows in
+        r ≡ checkOf b (now (message .entry)))
+        ⌝ }
+{
+    let found = key_book::row_of(ids, rows, auth.id);
+    let Found::At(row) = found else {
+        return Verdict::Refused(Refusal::UnknownSecret);
+    };
+    if auth.counter <= received[row] {
+        return Verdict::Refused(Refusal::Replay);
+    }
+    let mac = mac_of(key_book::key_of(store, lengths, row), message, auth);
+    let from = auth.at + dhcp_message::MAC_AT;
+    let to = auth.at + dhcp_message::FULL_SIZE;
+    if !same_mac(mac, &message[from..to]) {
+        return Verdict::Refused(Refusal::WrongMac);
+    }
+    Verdict::Accepted(row, auth.counter)
+}
+
+// 1 to 12, nothing stored.
+fn judged(
+    ids: &[u32],
+    lengths: &[u8],
+    store: &[u8],
+    received: &[u64],
+    sent: &[u64],
+    rows: usize,
+    message: &[u8],
+) -> Verdict
+    ensures { λ r. ⌜
+        (let b = bookOf (now (ids .entry)) (now (lengths .entry)) (now (store .entry)) (now (received .entry)) (now (sent .entry)) rows in
+        r ≡ checkOf b (now (message .entry)))
+        ⌝ }
+{
+    let form = admitted(ids, lengths, store, received, sent, rows, message);
+    match form {
+        Form::Refused(refusal) => Verdict::Refused(refusal),
+        Form::Full(auth) => judged_full(ids, lengths, store, received, sent, rows, message, auth),
+    }
+}
+
+// Judges a message, and stores its counter as received where it is accepted.
+pub fn check(
+    ids: &[u32],
+    lengths: &[u8],
+    store: &[u8],
+    received: &mut [u64],
+    sent: &[u64],
+    rows: usize,
+    message: &[u8],
+) -> Verdict
+    ensures answer { λ r. ⌜
+        (let b = bookOf (now (ids .entry)) (now (lengths .entry)) (now (store .entry)) (now (received .entry)) (now (sent .entry)) rows in
+        r ≡ checkOf b (now (message .entry)))
+        ⌝ }
+    ensures stored { λ _. ⌜
+        (let b = bookOf (now (ids .entry)) (now (lengths .entry)) (now (store .entry)) (now (received .entry)) (now (sent .entry)) rows in
+        now (received .exit) ≡ receivedAfter (checkOf b (now (message .entry))) (now (received .entry)))
+        ⌝ }
+{
+    let verdict = judged(ids, lengths, store, received, sent, rows, message);
+    match verdict {
+        Verdict::Accepted(row, counter) => {
+            received[row] = counter;
+            Verdict::Accepted(row, counter)
+        }
+        Verdict::Refused(refusal) => Verdict::Refused(refusal),
+    }
+}

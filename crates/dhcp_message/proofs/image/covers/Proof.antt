@@ -1,0 +1,26 @@
+-- `dhcp_message::covers` meets its contract: each answer is one case of `coverFits` (proofs/Images.antt).
+use Rattle.dhcp_message.proofs.Images.{fits-cut, fits-gap, fits-short, fits-small, fits-at}
+use borrow.Author.Needs.{needs}
+use Rattle.dhcp_message.proofs.image.covers.Statement.{statement}
+use Rattle.dhcp_message.proofs.image.covers.Tie as tie
+
+returns : tie.Need-returns
+returns c = fits-cut _ _ _ (search needs)
+
+returns-2 : tie.Need-returns-2
+returns-2 c = fits-gap _ _ _ (search needs) (search needs)
+
+sub-left : tie.Need-sub-left
+sub-left c = search needs
+
+returns-3 : tie.Need-returns-3
+returns-3 c = fits-short _ _ _ (search needs) (search needs) (search needs)
+
+returns-4 : tie.Need-returns-4
+returns-4 c = fits-small _ _ _ (search needs) (search needs) (search needs) (search needs)
+
+returns-5 : tie.Need-returns-5
+returns-5 c = fits-at _ _ _ (search needs) (search needs) (search needs) (search needs)
+
+pub covers-spec : {M : Type 1} → statement M
+covers-spec = tie.close (tie.spec returns returns-2 sub-left returns-3 returns-4 returns-5)
