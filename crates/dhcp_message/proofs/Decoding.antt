@@ -36,6 +36,21 @@ Codes [] = Unit {0}
 Codes (pad ∷ ts) = Codes ts
 Codes (opt c b ∷ ts) = (c ≢ 0) × (c ≢ 255) × Codes ts
 
+pub codes-append : (p q : List Token) → Codes p → Codes q → Codes (p ++ q)
+codes-append [] q h k = k
+codes-append (pad ∷ p) q h k = codes-append p q h k
+codes-append (opt e b ∷ p) q h k = (h .0, h .1, codes-append p q (h .2) k)
+
+pub codes-left : (p q : List Token) → Codes (p ++ q) → Codes p
+codes-left [] q h = tt
+codes-left (pad ∷ p) q h = codes-left p q h
+codes-left (opt e b ∷ p) q h = (h .0, h .1, codes-left p q (h .2))
+
+pub codes-right : (p q : List Token) → Codes (p ++ q) → Codes q
+codes-right [] q h = h
+codes-right (pad ∷ p) q h = codes-right p q h
+codes-right (opt e b ∷ p) q h = codes-right p q (h .2)
+
 pub well-codes : (ts : List Token) → WellFormed ts → Codes ts
 well-codes [] h = tt
 well-codes (pad ∷ ts) h = well-codes ts h

@@ -1,10 +1,17 @@
 pub mod Decoding
 pub mod Tokens
-mod Scanning
+mod Turns
+mod Found
 pub mod Passing
+mod Shapes
 pub mod Forms
+pub mod FullForms
+mod Headers
+mod Covers
 pub mod Images
+mod Fields
 pub mod Seals
+mod Changes
 pub mod Relays
 pub mod Lowest
 pub mod Examples

@@ -167,7 +167,7 @@ GivenForm m f = Right (Applies m) (refusalIn f)
 
 module _ (m : List ℕ) (bytes : Bytes m) (ts : List Token) (rest : List ℕ) (p : Passing m ts rest) (h : Below m 8) where
   abbrev s : Split 90 ts
-  s = split-90 m ts rest p
+  s = split-90 p
 
   -- it is the one option 90
   has : {P : List ℕ → List Token → Type 0} → P (s .body) (s .back) → WhereRead (Has 90 P) m
@@ -177,7 +177,7 @@ module _ (m : List ℕ) (bytes : Bytes m) (ts : List Token) (rest : List ℕ) (p
   body-of {P} r =
       let w = read-as m bytes ts rest (p .reads) r in
       let z = front-none 90 ts (w .front) (w .body) (w .back) (omega (arith, p .one-90)) (w .splits) in
-      let x = sym (ap (optionOf 90) (w .splits) ∙ option-there 90 (w .front) (w .body) (w .back) z) ∙ option-is m ts rest p 90 s in
+      let x = sym (ap (optionOf 90) (w .splits) ∙ option-there 90 (w .front) (w .body) (w .back) z) ∙ option-is p s in
       let b : w .body ≡ s .body = cc in
       (w .back, subst (λ (b : List ℕ). P b (w .back)) b (w .holds))
 
@@ -207,7 +207,7 @@ module _ (m : List ℕ) (bytes : Bytes m) (ts : List Token) (rest : List ℕ) (p
   given-said : GivenForm m (formSaid (placesOf ts) (saidBy (optionOf 90 ts)))
   unfolding saidBy
   given-said =
-      subst (λ (x : List ℕ). GivenForm m (formSaid (placesOf ts) (saidBy x))) (sym (option-is m ts rest p 90 s))
+      subst (λ (x : List ℕ). GivenForm m (formSaid (placesOf ts) (saidBy x))) (sym (option-is p s))
       (given-for (eqb (length (s .body)) 31) (eqb (length (s .body)) 11) (starts delayed (s .body)) _ _ _ refl refl refl)
 
 given-form : (m : List ℕ) → Bytes m → GivenForm m (formOf m)

@@ -1,19 +1,23 @@
--- Messages that pass checks 2 to 7: what they are known to have, where their options stand, and how one is put together.
+-- Messages that pass checks 2 to 7: what they are known to have, what is said of them, where their options stand, and how one is put together.
 use mathlib.Core.Path.{_≡_, refl, sym, ap, ap₂, _∙_, subst}
 use mathlib.Core.Logic.{_≢_}
 use Prim.Native.Nat.{ℕ, _+_, _≤_, _<_}
 use native.Mathlib.Omega.{arith}
 use mathlib.Core.Bool.{Bool, true, false, cond}
 use mathlib.Core.List.{List, _∷_, _++_, append-assoc}
-use lib.ListN.{length, take, drop, length-append, length-drop, take-append-drop}
+use lib.ListN.{length, take, drop, getD, length-append, length-drop, take-append-drop}
 use lib.Seq.{length-take-le, take-at, drop-at, drop-append-le}
 use lib.Dec.{ltb, eqb}
-use borrow.Author.Tests.{le-ltb, ne-eqb, eqb-false, ltb-false}
+use borrow.Author.Tests.{lt-ltb, le-ltb, ne-eqb, eqb-false, ltb-false}
 use Rattle.refusal.specs.declared.Refusal.the-variants.{MessageSize, WrongCookie, NoAuthentication, RepeatedAuthentication, RelayInformation}
 use Rattle.dhcp_message.specs.Layout.{magicCookie}
 use Rattle.octets.specs.Bytes.{starts}
 use Rattle.dhcp_message.specs.Options.{Token, Parsed, cut, parsed, encode, decode}
-use Rattle.dhcp_message.specs.Message.{count, optionOf, tokensBefore, offsetOf, isLast, Checked, stopped, passed, checkedTokens, checkedParsed, checkedOf, Passed, Passes27}
+use Rattle.dhcp_message.specs.Message.{count, optionOf, tokensBefore, offsetOf, isLast}
+use Rattle.dhcp_message.specs.Message.{Checked, stopped, passed, checkedTokens, checkedParsed, checkedOf, Passed, Passes27, authIn, authOptionOf}
+use Rattle.dhcp_message.specs.Said.{saidBy, saidIn, saidOf, placesOf, formSaid, formIn, formOf}
+use Rattle.dhcp_message.specs.Image.{without, macZero, headZero, imageIn, imageOf}
+use Rattle.dhcp_message.specs.Scan.{shapeIn, shapeOf}
 use Rattle.octets.proofs.Starts.{starts-append}
 use Rattle.dhcp_message.proofs.Decoding.{Codes, decode-encode, encode-decode}
 use Rattle.dhcp_message.proofs.Tokens.{once, Split, split, encode-append, option-there, before-there}
@@ -32,9 +36,12 @@ Good m (stopped r) = Unit {0}
 Good m (passed ts rest) = Passing m ts rest
 
 module _ (m : List ℕ) where
-  good-tokens : 241 ≤ length m → length m ≤ 1472 → starts magicCookie (drop 236 m) ≡ true → (ts : List Token) (rest : List ℕ) → decode (drop 240 m) ≡ parsed ts rest
+  good-tokens : 241 ≤ length m → length m ≤ 1472 → starts magicCookie (drop 236 m) ≡ true
+      → (ts : List Token) (rest : List ℕ) → decode (drop 240 m) ≡ parsed ts rest
       → (x y z l : Bool) → eqb (count 90 ts) 0 ≡ x → ltb 1 (count 90 ts) ≡ y → ltb 1 (count 82 ts) ≡ z → isLast 82 ts ≡ l
-      → Good m (cond x (stopped NoAuthentication) (cond y (stopped RepeatedAuthentication) (cond z (stopped RelayInformation) (cond l (passed ts rest) (stopped RelayInformation)))))
+      → Good m
+      (cond x (stopped NoAuthentication)
+      (cond y (stopped RepeatedAuthentication) (cond z (stopped RelayInformation) (cond l (passed ts rest) (stopped RelayInformation)))))
   good-tokens a b k ts rest e true y z l hx hy hz hl = tt
   good-tokens a b k ts rest e false true z l hx hy hz hl = tt
   good-tokens a b k ts rest e false false true l hx hy hz hl = tt
@@ -49,7 +56,8 @@ module _ (m : List ℕ) where
     last-82 = hl;
   }
 
-  good-parsed : 241 ≤ length m → length m ≤ 1472 → starts magicCookie (drop 236 m) ≡ true → (p : Parsed) → decode (drop 240 m) ≡ p → Good m (checkedParsed p)
+  good-parsed : 241 ≤ length m → length m ≤ 1472 → starts magicCookie (drop 236 m) ≡ true → (p : Parsed) → decode (drop 240 m) ≡ p
+      → Good m (checkedParsed p)
   unfolding checkedTokens
   good-parsed a b k cut e = tt
   good-parsed a b k (parsed ts rest) e = good-tokens a b k ts rest e _ _ _ _ refl refl refl refl
@@ -68,15 +76,35 @@ module _ (m : List ℕ) where
   pub passing : (ts : List Token) (rest : List ℕ) → checkedOf m ≡ passed ts rest → Passing m ts rest
   passing ts rest e = subst (Good m) e good
 
-  pub checks : (ts : List Token) (rest : List ℕ) → Passing m ts rest → checkedOf m ≡ passed ts rest
-  unfolding checkedOf checkedTokens
-  checks ts rest p =
+  -- the checks in turn
+  pub checks-short : length m < 241 → checkedOf m ≡ stopped MessageSize
+  unfolding checkedOf
+  checks-short h = rw (lt-ltb _ _ h)
+
+  module _ (h₀ : 241 ≤ length m) where
+    pub checks-long : 1472 < length m → checkedOf m ≡ stopped MessageSize
+    unfolding checkedOf
+    checks-long h = rw (le-ltb _ _ h₀, lt-ltb _ _ h)
+
+    module _ (h₁ : length m ≤ 1472) where
+      pub checks-cookie : starts magicCookie (drop 236 m) ≡ false → checkedOf m ≡ stopped WrongCookie
+      unfolding checkedOf
+      checks-cookie k = rw (le-ltb _ _ h₀, le-ltb _ _ h₁, k)
+
+      pub checks-options : starts magicCookie (drop 236 m) ≡ true → checkedOf m ≡ checkedParsed (decode (drop 240 m))
+      unfolding checkedOf
+      checks-options k = rw (le-ltb _ _ h₀, le-ltb _ _ h₁, k)
+
+  pub checks : {ts : List Token} {rest : List ℕ} → Passing m ts rest → checkedOf m ≡ passed ts rest
+  unfolding checkedTokens
+  checks {ts} p =
       let a : count 90 ts ≢ 0 = λ e. omega (arith, p .one-90) in
       let b : count 90 ts ≤ 1 = omega (arith, p .one-90) in
-      rw (le-ltb _ _ (p .long), le-ltb _ _ (p .short), p .magic, p .reads, ne-eqb _ _ a, le-ltb _ _ b, le-ltb _ _ (p .most-82), p .last-82)
+      checks-options (p .long) (p .short) (p .magic) ∙ ap checkedParsed (p .reads)
+      ∙ rw (ne-eqb _ _ a, le-ltb _ _ b, le-ltb _ _ (p .most-82), p .last-82)
 
-  pub passing-27 : (ts : List Token) (rest : List ℕ) → Passing m ts rest → Passes27 m
-  passing-27 ts rest p = subst Passed (sym (checks ts rest p)) tt
+  pub passing-27 : {ts : List Token} {rest : List ℕ} → Passing m ts rest → Passes27 m
+  passing-27 p = subst Passed (sym (checks p)) tt
 
   -- the tokens and the rest of a message that passes
   pub record Tokens : Type 0 where
@@ -90,6 +118,20 @@ module _ (m : List ℕ) where
       by : (c : Checked) → checkedOf m ≡ c → Passed c → Tokens
       by (stopped r) e h = absurd h
       by (passed ts rest) e h = record { tokens = ts; rest = rest; checked = e }
+
+-- what is found, answered and said goes by what checks 2 to 7 give
+module _ (m : List ℕ) where
+  pub shape-in : shapeOf m ≡ shapeIn (checkedOf m)
+  unfolding shapeOf
+  shape-in = refl
+
+  pub form-in : formOf m ≡ formIn (checkedOf m)
+  unfolding formOf
+  form-in = refl
+
+  pub said-in : saidOf m ≡ saidIn (checkedOf m)
+  unfolding saidOf
+  said-in = refl
 
 -- ---- a message put together
 
@@ -108,7 +150,8 @@ module _ (m head : List ℕ) (ts : List Token) (rest : List ℕ) (is : m ≡ hea
       ∙ ap (starts magicCookie) (drop-append-le 236 head _ l)
       ∙ starts-append magicCookie (drop 236 head) _ n
 
-  pub passing-built : Codes ts → count 90 ts ≡ 1 → count 82 ts ≤ 1 → isLast 82 ts ≡ true → starts magicCookie (drop 236 head) ≡ true → length m ≤ 1472 → Passing m ts rest
+  pub passing-built : Codes ts → count 90 ts ≡ 1 → count 82 ts ≤ 1 → isLast 82 ts ≡ true → starts magicCookie (drop 236 head) ≡ true
+      → length m ≤ 1472 → Passing m ts rest
   passing-built cs one most last magic fits = record {
     long = rw (is, length-append, size, length-append) (omega arith);
     short = fits;
@@ -121,7 +164,7 @@ module _ (m head : List ℕ) (ts : List Token) (rest : List ℕ) (is : m ≡ hea
 
 -- ---- its bytes
 
-module _ (m : List ℕ) (ts : List Token) (rest : List ℕ) (p : Passing m ts rest) where
+module _ {m : List ℕ} {ts : List Token} {rest : List ℕ} (p : Passing m ts rest) where
   pub header-size : length (take 240 m) ≡ 240
   header-size = length-take-le 240 m (omega (arith, p .long))
 
@@ -134,15 +177,30 @@ module _ (m : List ℕ) (ts : List Token) (rest : List ℕ) (p : Passing m ts re
   pub header-magic : starts magicCookie (drop 236 (take 240 m)) ≡ true
   header-magic = sym (magic-built m (take 240 m) ts rest whole header-size) ∙ p .magic
 
+  pub form-passed : formOf m ≡ formSaid (placesOf ts) (saidBy (optionOf 90 ts))
+  form-passed = form-in m ∙ ap formIn (checks m p)
+
+  pub said-passed : saidOf m ≡ saidBy (optionOf 90 ts)
+  said-passed = said-in m ∙ ap saidIn (checks m p)
+
+  pub auth-passed : authOptionOf m ≡ optionOf 90 ts
+  unfolding authOptionOf
+  auth-passed = ap authIn (p .reads)
+
+  pub image-passed : imageOf m ≡ headZero (take 240 m) ++ (encode (macZero (without 82 ts)) ++ (255 ∷ rest))
+  unfolding imageOf
+  image-passed = ap (imageIn (take 240 m)) (p .reads)
+
   -- around the first option of a code
-  module _ (c : ℕ) (s : Split c ts) where
+  module _ {c : ℕ} (s : Split c ts) where
     pub around : m ≡ (take 240 m ++ encode (s .front)) ++ (c ∷ length (s .body) ∷ (s .body ++ (encode (s .back) ++ (255 ∷ rest))))
     around = whole ∙ ap (λ (us : List Token). take 240 m ++ (encode us ++ (255 ∷ rest))) (s .tokens) ∙ simp (encode-append, append-assoc)
 
     pub front-size : length (take 240 m ++ encode (s .front)) ≡ offsetOf c ts
     front-size =
         length-append (take 240 m) (encode (s .front))
-        ∙ ap₂ (λ (n : ℕ) (us : List Token). n + length (encode us)) header-size (sym (before-there c (s .front) (s .body) (s .back) (s .none-front)) ∙ ap (tokensBefore c) (sym (s .tokens)))
+        ∙ ap₂ (λ (n : ℕ) (us : List Token). n + length (encode us)) header-size
+        (sym (before-there c (s .front) (s .body) (s .back) (s .none-front)) ∙ ap (tokensBefore c) (sym (s .tokens)))
 
     pub option-is : optionOf c ts ≡ c ∷ length (s .body) ∷ s .body
     option-is = ap (optionOf c) (s .tokens) ∙ option-there c (s .front) (s .body) (s .back) (s .none-front)
@@ -159,5 +217,15 @@ module _ (m : List ℕ) (ts : List Token) (rest : List ℕ) (p : Passing m ts re
         let d = ap length option-is in
         omega (arith, simp length-append at a, simp length-append at b)
 
+  -- its one option 90
   pub split-90 : Split 90 ts
   split-90 = split 90 ts (omega (arith, p .one-90))
+
+  pub length-byte : getD (optionOf 90 ts) 1 0 ≡ length (split-90 .body)
+  length-byte = ap (λ (x : List ℕ). getD x 1 0) (option-is split-90)
+
+  pub option-length : 2 + getD (optionOf 90 ts) 1 0 ≡ length (optionOf 90 ts)
+  option-length =
+      let a = length-byte in
+      let b = ap length (option-is split-90) in
+      omega arith

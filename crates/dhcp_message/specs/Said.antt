@@ -31,11 +31,14 @@ saidFor true request method said = cond method said (refused OtherAuthentication
 saidFor false true method said = cond method (refused RequestForm) (refused OtherAuthentication)
 saidFor false false method said = refused OtherAuthentication
 
--- by the bytes of option 90
+-- what the bytes of option 90 say in full form
+abbrev pub fullSaid : List ℕ → Said
+fullSaid x = says (bigAt x counterAt counterSize) (bigAt x secretIdAt secretIdSize) (take macSize (drop macAt x))
+
+-- what they say, whatever form they have
 unfoldable pub saidBy : List ℕ → Said
 saidBy x =
-    saidFor (eqb (getD x lengthAt 0) fullLength) (eqb (getD x lengthAt 0) requestLength) (starts delayed (drop methodAt x))
-    (says (bigAt x counterAt counterSize) (bigAt x secretIdAt secretIdSize) (take macSize (drop macAt x)))
+    saidFor (eqb (getD x lengthAt 0) fullLength) (eqb (getD x lengthAt 0) requestLength) (starts delayed (drop methodAt x)) (fullSaid x)
 
 abbrev pub saidIn : Checked → Said
 saidIn (stopped r) = refused r

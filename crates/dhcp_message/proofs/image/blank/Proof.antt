@@ -1,6 +1,6 @@
--- `dhcp_message::blank` meets its contract: three stretches of zeros one after another (proofs/Images.antt, `blanked`).
+-- `dhcp_message::blank` meets its contract: three stretches of zeros one after another (proofs/Headers.antt, `blanked`).
 use denote.Ref.{now}
-use Rattle.dhcp_message.proofs.Images.{blanked}
+use Rattle.dhcp_message.proofs.Headers.{blanked}
 use borrow.Author.Needs.{needs}
 use Rattle.dhcp_message.proofs.image.blank.Statement.{statement}
 use Rattle.dhcp_message.proofs.image.blank.Tie as tie

@@ -1,10 +1,10 @@
--- `dhcp_message::cover` meets its contract: what doesn't fit is `covered-not`, the copies and the zeros are `covered` (proofs/Images.antt).
+-- `dhcp_message::cover` meets its contract: what doesn't fit is `covered-not`, the copies and the zeros are `covered` (proofs/Covers.antt).
 use mathlib.Core.Path.{sym}
 use native.Mathlib.Omega.{arith}
 use lib.ListN.{length}
 use borrow.Author.Needs.{needs}
 use denote.Ref.{now}
-use Rattle.dhcp_message.proofs.Images.{Fits, fits-given, fits-not, covered, covered-not, PartSizes, part-sizes}
+use Rattle.dhcp_message.proofs.Covers.{Fits, fits-given, fits-not, covered, covered-not, PartSizes, part-sizes}
 use Rattle.dhcp_message.proofs.image.cover.Statement.{statement}
 use Rattle.dhcp_message.proofs.image.cover.Tie as tie
 

@@ -1,5 +1,5 @@
--- `dhcp_message::covers` meets its contract: each answer is one case of `coverFits` (proofs/Images.antt).
-use Rattle.dhcp_message.proofs.Images.{fits-cut, fits-gap, fits-short, fits-small, fits-at}
+-- `dhcp_message::covers` meets its contract: each answer is one case of `coverFits` (proofs/Covers.antt).
+use Rattle.dhcp_message.proofs.Covers.{fits-cut, fits-gap, fits-short, fits-small, fits-at}
 use borrow.Author.Needs.{needs}
 use Rattle.dhcp_message.proofs.image.covers.Statement.{statement}
 use Rattle.dhcp_message.proofs.image.covers.Tie as tie

@@ -30,22 +30,34 @@ cast-id : tie.Need-cast-id
 cast-id c = search needs
 
 returns : tie.Need-returns
-returns c = form-full (now (c .before .before .before .before .before .before .before .args .message)) (c .before .before .before .before .before .before .before .args .p) _ _ _ (search needs) (c .before .before .before .is-delayed .ensures) (search needs) (c .before .big .ensures .0) (c .big2 .ensures .0)
+returns c =
+    let read = c .before in
+    let a = read .before .before .before .before .before .before .args in
+    form-full (now (a .message)) (a .p) _ (read .before .before .is-delayed .ensures) _ _ (search needs) (search needs)
+    (read .big .ensures .0) (c .big2 .ensures .0)
 
 returns-2 : tie.Need-returns-2
-returns-2 c = form-other (now (c .before .before .before .before .before .args .message)) (c .before .before .before .before .before .args .p) _ (search needs) (c .before .is-delayed .ensures) (search needs)
+returns-2 c =
+    let a = c .before .before .before .before .before .args in
+    form-other (now (a .message)) (a .p) _ (c .before .is-delayed .ensures) (search needs) (search needs)
 
 is-delayed-requires-2 : tie.Need-is-delayed-requires-2
 is-delayed-requires-2 c κs = search needs
 
 returns-3 : tie.Need-returns-3
-returns-3 c = form-request (now (c .before .before .before .before .before .before .args .message)) (c .before .before .before .before .before .before .args .p) (search needs) _ (search needs) (c .before .is-delayed2 .ensures) (search needs)
+returns-3 c =
+    let a = c .before .before .before .before .before .before .args in
+    form-request (now (a .message)) (a .p) _ (c .before .is-delayed2 .ensures) (search needs) (search needs)
 
 returns-4 : tie.Need-returns-4
-returns-4 c = form-other-request (now (c .before .before .before .before .before .before .args .message)) (c .before .before .before .before .before .before .args .p) (search needs) _ (search needs) (c .before .is-delayed2 .ensures) (search needs)
+returns-4 c =
+    let a = c .before .before .before .before .before .before .args in
+    form-other-request (now (a .message)) (a .p) _ (c .before .is-delayed2 .ensures) (search needs) (search needs)
 
 returns-5 : tie.Need-returns-5
-returns-5 c = form-other-length (now (c .before .before .before .before .args .message)) (c .before .before .before .before .args .p) (search needs) (search needs)
+returns-5 c =
+    let a = c .before .before .before .before .args in
+    form-other-length (now (a .message)) (a .p) (search needs) (search needs)
 
 pub form-at-spec : {M : Type 1} → statement M
 form-at-spec =

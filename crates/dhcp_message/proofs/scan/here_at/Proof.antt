@@ -1,7 +1,7 @@
--- `dhcp_message::here_at` meets its contract: each answer is one case of `hereAt` (proofs/Scanning.antt).
+-- `dhcp_message::here_at` meets its contract: each answer is one case of `hereAt` (proofs/Turns.antt).
 use Prim.Native.Nat.{_+_}
 use native.Mathlib.Omega.{arith}
-use Rattle.dhcp_message.proofs.Scanning.{here-past, here-pad, here-end, here-short, here-cut, here-opt}
+use Rattle.dhcp_message.proofs.Turns.{here-past, here-pad, here-end, here-short, here-cut, here-opt}
 use borrow.Author.Needs.{needs}
 use Rattle.dhcp_message.proofs.scan.here_at.Statement.{statement}
 use Rattle.dhcp_message.proofs.scan.here_at.Tie as tie

@@ -1,5 +1,5 @@
--- `dhcp_message::seen` meets its contract: each answer is one case of `seenOf` (proofs/Scanning.antt).
-use Rattle.dhcp_message.proofs.Scanning.{seen-auth, seen-relay, seen-other}
+-- `dhcp_message::seen` meets its contract: each answer is one case of `seenOf` (proofs/Turns.antt).
+use Rattle.dhcp_message.proofs.Turns.{seen-auth, seen-relay, seen-other}
 use borrow.Author.Needs.{needs}
 use Rattle.dhcp_message.proofs.scan.seen.Statement.{statement}
 use Rattle.dhcp_message.proofs.scan.seen.Tie as tie

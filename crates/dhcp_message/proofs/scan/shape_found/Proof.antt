@@ -1,5 +1,5 @@
--- `dhcp_message::shape_found` meets its contract: each answer is one case of `shapeFound` (proofs/Scanning.antt).
-use Rattle.dhcp_message.proofs.Scanning.{found-5, found-6, found-plain, found-7, found-last, found-late}
+-- `dhcp_message::shape_found` meets its contract: each answer is one case of `shapeFound` (proofs/Shapes.antt).
+use Rattle.dhcp_message.proofs.Shapes.{found-5, found-6, found-plain, found-7, found-last, found-late}
 use borrow.Author.Needs.{needs}
 use Rattle.dhcp_message.proofs.scan.shape_found.Statement.{statement}
 use Rattle.dhcp_message.proofs.scan.shape_found.Tie as tie

@@ -1,7 +1,7 @@
--- `dhcp_message::shape_of` meets its contract: each answer is one case of checks 2 to 7 (proofs/Scanning.antt).
+-- `dhcp_message::shape_of` meets its contract: each answer is one case of checks 2 to 7 (proofs/Shapes.antt).
 use borrow.Author.Tests.{not-true, not-false}
 use mathlib.Core.Path.{sym, _∙_}
-use Rattle.dhcp_message.proofs.Scanning.{shape-short, shape-long, shape-cookie, shape-cut, shape-whole}
+use Rattle.dhcp_message.proofs.Shapes.{shape-short, shape-long, shape-cookie, shape-cut, shape-whole}
 use borrow.Author.Needs.{needs}
 use Rattle.dhcp_message.proofs.scan.shape_of.Statement.{statement}
 use Rattle.dhcp_message.proofs.scan.shape_of.Tie as tie

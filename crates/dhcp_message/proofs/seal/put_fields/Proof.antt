@@ -1,7 +1,7 @@
--- `dhcp_message::put_fields` meets its contract: two numbers written one behind another (proofs/Seals.antt, `fields-put`).
+-- `dhcp_message::put_fields` meets its contract: two numbers written one behind another (proofs/Fields.antt, `fields-put`).
 use borrow.Author.Needs.{needs}
 use denote.Ref.{now}
-use Rattle.dhcp_message.proofs.Seals.{fields-left, fields-put}
+use Rattle.dhcp_message.proofs.Fields.{fields-left, fields-put}
 use Rattle.dhcp_message.proofs.seal.put_fields.Statement.{statement}
 use Rattle.dhcp_message.proofs.seal.put_fields.Tie as tie
 
