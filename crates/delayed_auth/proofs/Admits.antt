@@ -1,4 +1,4 @@
--- 1 to 9, once for check, key and seal: what is admitted, and what is known of a row that was found on a sound book.
+-- 1 to 9, once for check, key and seal: what is admitted, by whether the book is sound; and what is known of a row found on a sound book.
 -- The only file that unfolds `admittedSaid` and `admittedForm`.
 use mathlib.Core.Path.{_≡_, refl, sym, ap, _∙_}
 use mathlib.Core.Bool.{Bool, true, false, cond}
@@ -9,7 +9,7 @@ use native.Mathlib.Omega.{arith}
 use lib.ListN.{length}
 use Rattle.refusal.specs.declared.Refusal.the-variants.{UnsoundBook}
 use Rattle.hmac_md5.specs.Hmac.{keyMost}
-use Rattle.dhcp_message.specs.Said.{refused, says, saidOf, formOf, formSays}
+use Rattle.dhcp_message.specs.Said.{Said, refused, says, saidOf, formOf, formSays}
 use Rattle.dhcp_message.specs.declared.Auth.{Auth}
 use Rattle.dhcp_message.specs.declared.Form.{Form}
 use Rattle.dhcp_message.specs.declared.Form.the-variants.{Refused, Full}
@@ -19,59 +19,57 @@ use Rattle.key_book.specs.Book.{Book, sound, rowOf, keyOf, keyStart}
 use Rattle.key_book.proofs.Says.{sound-says, row-says, rows-within, key-says}
 use Rattle.delayed_auth.specs.Admit.{admittedSaid, admittedForm}
 
--- two constructors that are equal make 0 equal to 1, by `cc`
-pub never : {X : Type 0} → _≡_ {A = ℕ} 0 1 → X
-never e = absurd (omega arith)
-
 -- ---- 1 to 9
 
+pub data SaidCase (b : Book) (m : List ℕ) : Said → Type 0 where
+  said-unsound : sound b ≡ false → SaidCase b m (refused UnsoundBook)
+  said-sound : {x : Said} → sound b ≡ true → saidOf m ≡ x → SaidCase b m x
+
+pub data FormCase (b : Book) (m : List ℕ) : Form → Type 0 where
+  form-unsound : sound b ≡ false → FormCase b m (Refused UnsoundBook)
+  form-sound : {f : Form} → sound b ≡ true → formOf m ≡ f → FormCase b m f
+
 module _ (b : Book) (m : List ℕ) where
-  pub admit-unsound : sound b ≡ false → Refused UnsoundBook ≡ admittedForm b m
-  unfolding admittedForm
-  admit-unsound s = rw s
-
-  pub admit-sound : sound b ≡ true → formOf m ≡ admittedForm b m
-  unfolding admittedForm
-  admit-sound s = rw s
-
-  pub said-sound : sound b ≡ true → saidOf m ≡ admittedSaid b m
+  pub case-said : (x : Said) → SaidCase b m x → x ≡ admittedSaid b m
   unfolding admittedSaid
-  said-sound s = rw s
+  case-said x (said-unsound s) = rw s
+  case-said x (said-sound s e) = rw (s, e)
+
+  pub said-case : (x : Said) → x ≡ admittedSaid b m → SaidCase b m x
+  unfolding admittedSaid
+  said-case x e = on (sound b) refl e
+    where
+      on : (t : Bool) → sound b ≡ t → x ≡ cond t (saidOf m) (refused UnsoundBook) → SaidCase b m x
+      on true s e = said-sound s (sym e)
+      on false s e = rw e (said-unsound s)
+
+  pub case-form : (f : Form) → FormCase b m f → f ≡ admittedForm b m
+  unfolding admittedForm
+  case-form f (form-unsound s) = rw s
+  case-form f (form-sound s e) = rw (s, e)
+
+  pub form-case : (f : Form) → f ≡ admittedForm b m → FormCase b m f
+  unfolding admittedForm
+  form-case f e = on (sound b) refl e
+    where
+      on : (t : Bool) → sound b ≡ t → f ≡ cond t (formOf m) (Refused UnsoundBook) → FormCase b m f
+      on true s e = form-sound s (sym e)
+      on false s e = rw e (form-unsound s)
 
   -- what is said is what the form says
-  pub admit-says : (f : Form) → f ≡ admittedForm b m → formSays m f ≡ admittedSaid b m
-  unfolding admittedSaid admittedForm
-  admit-says f e = ap (formSays m) e ∙ on (sound b)
+  pub form-said : (f : Form) → f ≡ admittedForm b m → formSays m f ≡ admittedSaid b m
+  form-said f e = case-said (formSays m f) (on f (form-case f e))
     where
-      on : (t : Bool) → formSays m (cond t (formOf m) (Refused UnsoundBook)) ≡ cond t (saidOf m) (refused UnsoundBook)
-      on true = sym (form-says .said m)
-      on false = refl
+      on : (f : Form) → FormCase b m f → SaidCase b m (formSays m f)
+      on f (form-unsound s) = said-unsound s
+      on f (form-sound s e) = said-sound s (form-says .said m ∙ ap (formSays m) e)
 
   -- whoever passes is on a sound book
-  pub admitted-full : (a : Auth) → Full a ≡ admittedForm b m → (sound b ≡ true) × (formOf m ≡ Full a)
-  unfolding admittedForm
-  admitted-full a e = on (sound b) refl e
+  pub full-passed : (a : Auth) → Full a ≡ admittedForm b m → (sound b ≡ true) × (formOf m ≡ Full a)
+  full-passed a e = on (form-case (Full a) e)
     where
-      on : (t : Bool) → sound b ≡ t → Full a ≡ cond t (formOf m) (Refused UnsoundBook) → (sound b ≡ true) × (formOf m ≡ Full a)
-      on true s e = (s, sym e)
-      on false s e = never cc
-
-  pub admitted-says : (c id : ℕ) (mac : List ℕ) → says c id mac ≡ admittedSaid b m → (sound b ≡ true) × (saidOf m ≡ says c id mac)
-  unfolding admittedSaid
-  admitted-says c id mac e = on (sound b) refl e
-    where
-      on : (t : Bool) → sound b ≡ t → says c id mac ≡ cond t (saidOf m) (refused UnsoundBook) → (sound b ≡ true) × (saidOf m ≡ says c id mac)
-      on true s e = (s, sym e)
-      on false s e = never cc
-
--- what is said, of two books that are sound alike and two messages that say the same
-pub admit-alike : (a b : Book) (m n : List ℕ) → sound a ≡ sound b → saidOf m ≡ saidOf n → admittedSaid a m ≡ admittedSaid b n
-unfolding admittedSaid
-admit-alike a b m n e f = rw (e, f)
-
-pub form-alike : (a b : Book) (m : List ℕ) → sound a ≡ sound b → admittedForm a m ≡ admittedForm b m
-unfolding admittedForm
-form-alike a b m e = rw e
+      on : FormCase b m (Full a) → (sound b ≡ true) × (formOf m ≡ Full a)
+      on (form-sound s f) = (s, f)
 
 -- ---- a row that was found on a sound book
 
@@ -97,3 +95,9 @@ row-facts b id k s e =
       key-start = q .start;
       slot-inside = omega (arith, i .in-ids, w .sizes .store-agrees);
     }
+
+pub said-facts : (b : Book) (m : List ℕ) (c id k : ℕ) (mac : List ℕ) → says c id mac ≡ admittedSaid b m → rowOf b id ≡ some k → RowFacts b k
+said-facts b m c id k mac e f = on (said-case b m (says c id mac) e)
+  where
+    on : SaidCase b m (says c id mac) → RowFacts b k
+    on (said-sound s g) = row-facts b id k s f

@@ -1,5 +1,6 @@
 -- Laws of comparing and computing MACs. The only file that unfolds `sameBytes`.
 use mathlib.Core.Path.{_≡_, refl, sym, ap, _∙_}
+use mathlib.Core.Logic.{_≢_}
 use mathlib.Core.Bool.{Bool, true, false, _&&_, and-eq-true-iff}
 use mathlib.Core.List.{List, [], _∷_, _++_}
 use Prim.Native.Nat.{ℕ, suc, _+_, _-_, _≤_, _<_}
@@ -60,6 +61,16 @@ same-itself (x ∷ xs) = rw (eq-eqb x x refl) (same-itself xs)
 
 pub equal-same : (xs ys : List ℕ) → xs ≡ ys → sameBytes xs ys ≡ true
 equal-same xs ys e = rw (← e) (same-itself xs)
+
+pub same-differ : (xs ys : List ℕ) → sameBytes xs ys ≡ false → xs ≢ ys
+same-differ xs ys e g = let t = equal-same xs ys g in let z : _≡_ {A = ℕ} 0 1 = cc in omega arith
+
+pub differ-same : (xs ys : List ℕ) → xs ≢ ys → sameBytes xs ys ≡ false
+differ-same xs ys h = on (sameBytes xs ys) refl
+  where
+    on : (t : Bool) → sameBytes xs ys ≡ t → t ≡ false
+    on true e = absurd (h (same-equal xs ys e))
+    on false e = refl
 
 -- ---- the MAC over the covered image, which `cover` writes into zeros that have room for any message
 

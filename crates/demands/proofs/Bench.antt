@@ -1,92 +1,82 @@
--- The bench examples: what the crates below computed of the message and of the card, on Book B.
-use Prim.Native.Nat.{ℕ, suc}
+-- The bench examples: what the crates below computed, and how a check on Book B goes by the message's form.
+use Prim.Native.Nat.{ℕ, _≤_}
 use native.Mathlib.Omega.{arith}
 use mathlib.Core.Path.{_≡_, refl, sym, ap, _∙_}
+use mathlib.Core.Logic.{_≢_, _↔_}
 use mathlib.Core.Bool.{true}
 use mathlib.Core.List.{List}
-use Rattle.octets.specs.Numbers.{bigAt}
-use Rattle.refusal.specs.Number.{numberOf}
-use Rattle.refusal.specs.declared.Refusal.{Refusal}
-use Rattle.refusal.specs.declared.Refusal.the-variants.{WrongCookie}
-use Rattle.octets.specs.Bytes.{zeros}
+use mathlib.Core.Option.{none, some}
 use Rattle.dhcp_message.specs.Bench.{someMac}
 use Rattle.dhcp_message.specs.Options.{decodeAt}
 use Rattle.dhcp_message.specs.Message.{checkedOf, checkedTokens}
-use Rattle.dhcp_message.specs.Said.{Said, refused, says, saidBy, saidOf, formOf, formNumber, formSays}
-use Rattle.dhcp_message.specs.declared.Form.{Form}
-use Rattle.dhcp_message.specs.declared.Form.the-variants.{Refused as FormRefused, Full}
-use Rattle.dhcp_message.proofs.Seals.{form-says}
+use Rattle.dhcp_message.specs.Said.{refused, says, saidBy, saidOf, formOf, formNumber}
 use Rattle.dhcp_message.proofs.Examples.{bench-examples}
-use Rattle.key_book.specs.Book.{allBelow, sized, ascending, keySizes, sound, placeFrom, rowIn}
+use Rattle.key_book.specs.Book.{Sound, allBelow, sized, ascending, keySizes, sound, rowOf, placeFrom, rowIn}
+use Rattle.key_book.proofs.Says.{sound-says}
 use Rattle.key_book.proofs.Computed.{example-10}
-use Rattle.delayed_auth.specs.Check.{judgedRow, judgedSaid, judgedSound, checkOf, verdictNumber}
-use Rattle.book_card.specs.Reading.{readNumber}
+use Rattle.delayed_auth.specs.declared.Verdict.{Verdict}
+use Rattle.delayed_auth.specs.Check.{checkOf, verdictNumber}
 use Rattle.card_laws.specs.Examples.{bookB}
 use Rattle.card_laws.proofs.Computed.{example-1, example-2}
-use Rattle.demands.specs.Bench.{numberOnB, wrongMac, BenchTable}
+use Rattle.demands.specs.Bench.{wrongMac, BenchTable}
+use Rattle.demands.proofs.Below.{said-form}
+use Rattle.demands.proofs.Stages.{CheckCase, check-unsound, check-refused, check-unknown, check-replay, check-wrong, check-accepts}
+use Rattle.demands.proofs.Stages.{check-case, case-check}
 
 b-sound : sound bookB ≡ true
 unfolding sound sized ascending keySizes allBelow
 b-sound = refl
 
--- a check on Book B goes by what the message says
-on-b : (m : List ℕ) (s : Said) → saidOf m ≡ s → numberOnB m ≡ verdictNumber (judgedSaid bookB m s)
-unfolding checkOf judgedSound
-on-b m s e = rw (b-sound, e)
+good : Sound bookB
+good = sound-says bookB .0 b-sound
 
-on-b-refused : (m : List ℕ) (r : Refusal) → saidOf m ≡ refused r → numberOnB m ≡ numberOf r
-unfolding judgedSaid
-on-b-refused m r e = on-b m (refused r) e
+-- ---- 2 to 9
 
--- and gives the number of a form that is refused
-on-b-number : (m : List ℕ) (k : ℕ) → formNumber (formOf m) ≡ suc k → numberOnB m ≡ suc k
-on-b-number m k e = by (formOf m) (form-says .said m) e
-  where
-    by : (f : Form) → saidOf m ≡ formSays m f → formNumber f ≡ suc k → numberOnB m ≡ suc k
-    by (FormRefused r) s e = on-b-refused m r s ∙ e
-    by (Full a) s e = absurd (omega arith)
+-- in full form the message has none of them, and the check gives another
+full-form : (m : List ℕ) (c id : ℕ) (mac : List ℕ) (n number : ℕ) → saidOf m ≡ says c id mac → 2 ≤ n → number ≢ n
+    → (number ≡ n) ↔ (formNumber (formOf m) ≡ n)
+full-form m c id mac n number e l d =
+    let f : formNumber (formOf m) ≡ 0 = ap formNumber (said-form m (says c id mac) e .form) in
+    (λ g. absurd (d g), λ g. absurd (omega arith))
 
--- the two messages of example 8
+by-form : (m : List ℕ) (n : ℕ) → 2 ≤ n → n ≤ 9 → (v : Verdict) → CheckCase bookB m v → (verdictNumber v ≡ n) ↔ (formNumber (formOf m) ≡ n)
+by-form m n l h v (check-unsound w) = absurd (w good)
+by-form m n l h v (check-refused {r} s e) = let f = ap formNumber (said-form m (refused r) e) in (λ g. f ∙ g, λ g. sym f ∙ g)
+by-form m n l h v (check-unknown c id mac s e f) = full-form m c id mac n 10 e l (λ g. omega arith)
+by-form m n l h v (check-replay c k mac s w g) = full-form m c (w .id) mac n 11 (w .form) l (λ g. omega arith)
+by-form m n l h v (check-wrong c k mac s w g i) = full-form m c (w .id) mac n 12 (w .form) l (λ g. omega arith)
+by-form m n l h v (check-accepts {k} {c} s a) = full-form m c (a .id) (a .mac) n 0 (a .form) l (λ g. omega arith)
+
+-- ---- example 8
+
 says-8 : saidOf (wrongMac 11 8) ≡ says 11 8 someMac
-unfolding saidOf saidBy checkedOf checkedTokens decodeAt bigAt
+unfolding saidOf saidBy checkedOf checkedTokens decodeAt
 says-8 = refl
 
 says-7 : saidOf (wrongMac 10 7) ≡ says 10 7 someMac
-unfolding saidOf saidBy checkedOf checkedTokens decodeAt bigAt
+unfolding saidOf saidBy checkedOf checkedTokens decodeAt
 says-7 = refl
 
-unknown-8 : numberOnB (wrongMac 11 8) ≡ 10
-unfolding judgedSaid judgedRow rowIn placeFrom
-unknown-8 = on-b (wrongMac 11 8) (says 11 8 someMac) says-8
+row-8 : rowOf bookB 8 ≡ none
+unfolding placeFrom rowIn
+row-8 = refl
 
-replay-7 : numberOnB (wrongMac 10 7) ≡ 11
-unfolding judgedSaid judgedRow rowIn placeFrom
-replay-7 = on-b (wrongMac 10 7) (says 10 7 someMac) says-7
+row-7 : rowOf bookB 7 ≡ some 0
+unfolding placeFrom rowIn
+row-7 = refl
 
-zeros-said : saidOf (zeros 1472) ≡ refused WrongCookie
-unfolding saidOf checkedOf
-zeros-said = refl
-
-wrong-cookie : numberOnB (zeros 1472) ≡ 3
-wrong-cookie = on-b-refused (zeros 1472) WrongCookie zeros-said
+number-8 : verdictNumber (checkOf bookB (wrongMac 10 7)) ≡ 11
+number-8 =
+    ap verdictNumber (case-check bookB (wrongMac 10 7) _
+    (check-replay 10 0 someMac good (record { id = 7; form = says-7; secret = row-7 }) (omega arith)))
 
 pub bench-table : BenchTable
-bench-table =
-    record {
-      example-1 = example-1 .card;
-      example-1-size = example-1 .size;
-      example-2 = example-2 .no-rows-read;
-      example-2-more = λ x. ap readNumber (example-2 .one-byte-more-read x);
-      example-3-short = on-b-number _ _ (bench-examples .example-3-short);
-      example-3-long = on-b-number _ _ (bench-examples .example-3-long);
-      example-3-passes = λ e. let z : _≡_ {A = ℕ} 3 2 = sym wrong-cookie ∙ e in omega arith;
-      example-4 = on-b-number _ _ (bench-examples .example-4);
-      example-5 = on-b-number _ _ (bench-examples .example-5);
-      example-6 = on-b-number _ _ (bench-examples .example-6);
-      example-7-request = on-b-number _ _ (bench-examples .example-7-request);
-      example-7-protocol = on-b-number _ _ (bench-examples .example-7-protocol);
-      example-8-id = unknown-8;
-      example-8-counter = replay-7;
-      example-10 = example-10 .largest-key;
-      example-10-longer = example-10 .key-too-long;
-    }
+bench-table = record {
+  example-1 = example-1;
+  example-2 = example-2;
+  examples-3-to-7 = bench-examples;
+  on-book-B = λ m n l h. by-form m n l h (checkOf bookB m) (check-case bookB m);
+  example-8-id = ap verdictNumber (case-check bookB (wrongMac 11 8) _ (check-unknown 11 8 someMac good says-8 row-8));
+  example-8-counter = number-8;
+  example-10 = example-10;
+}

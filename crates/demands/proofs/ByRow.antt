@@ -19,9 +19,9 @@ use Rattle.delayed_auth.specs.Check.{checkOf, receivedAfter}
 use Rattle.delayed_auth.specs.Seal.{Outcome, sealed, unsealed, sealOf, sealingOf, messageAfter, sentAfter}
 use Rattle.demands.specs.Demand3.{Step, check, seal, checked, wrote, answerOf, bookAfter, answers, ending, bookAt}
 use Rattle.demands.specs.Demand3.{Carried, same, relayed, OneSecret, checks, seals}
-use Rattle.demands.proofs.Stages.{never}
+use Rattle.demands.proofs.Below.{never}
 use Rattle.demands.proofs.Runs.{Walk, Local}
-use Rattle.demands.proofs.Steps.{SameIds, step-keeps, row-kept, received-room, sent-room, single, name-relayed, check-relayed}
+use Rattle.demands.proofs.Steps.{SameIds, step-keeps, row-kept, received-room, sent-room, single, name-relayed}
 use Rattle.demands.proofs.Steps.{receivedRow, sentRow, check-reads, seal-reads, accepted-at, sealed-at}
 
 -- the runs of specs/Demand3.antt
@@ -155,18 +155,16 @@ module _ (b₀ : Book) where
           getD-set-other (b .sent) r k d 0 (λ x. g (ap (Option·map sends) row ∙ ap (λ (y : ℕ). some (sends y)) (sym x)))
 
   module _ (a b : Book) (x : SameIds b₀ a) (y : SameIds b₀ b) where
-    same-check : (m n : List ℕ) → Relayed m n → ((c : Channel) → channel (check m) ≡ some c → holds c a ≡ holds c b) → checkOf a m ≡ checkOf b n
+    same-check : (m n : List ℕ) → Relayed m n → ((c : Channel) → channel (check m) ≡ some c → holds c a ≡ holds c b) → checkOf b n ≡ checkOf a m
     unfolding channel
-    same-check m n q h =
-        check-reads b₀ a b x y m (λ id k e f. h (receives k) (ap (Option·map receives) (found-row (named m) id k e f)))
-        ∙ sym (check-relayed b m n q)
+    same-check m n q h = check-reads b₀ a b x y m n q (λ id k e f. h (receives k) (ap (Option·map receives) (found-row (named m) id k e f)))
 
     same-seal : (id : ℕ) (m : List ℕ) → ((c : Channel) → channel (seal id m) ≡ some c → holds c a ≡ holds c b) → sealOf a id m ≡ sealOf b id m
     unfolding channel
     same-seal id m h = seal-reads b₀ a b x y id m (λ k e. h (sends k) (ap (Option·map sends) e))
 
     answer : (s t : Step) → Alike s t → ((c : Channel) → channel s ≡ some c → holds c a ≡ holds c b) → answerOf a s ≡ answerOf b t
-    answer s t (check-alike {m = m} {n = n} q) h = ap checked (same-check m n q h)
+    answer s t (check-alike {m = m} {n = n} q) h = ap checked (sym (same-check m n q h))
     answer s t (seal-alike {id = id} {m = m}) h = ap (λ (o : Outcome). wrote (sealingOf o) (messageAfter o m)) (same-seal id m h)
 
     received-same : (v : Verdict) (k : ℕ) → receivedRow k a ≡ receivedRow k b
@@ -182,7 +180,7 @@ module _ (b₀ : Book) where
     change : (s t : Step) → Alike s t → (c : Channel) → channel s ≡ some c → holds c a ≡ holds c b → holds c (bookAfter a s) ≡ holds c (bookAfter b t)
     change s t (check-alike q) (sends k) e f = f
     change s t (check-alike {m = m} {n = n} q) (receives k) e f =
-        rw (same-check m n q (λ d g. let z : d ≡ receives k = cc in rw z f)) (received-same (checkOf b n) k f)
+        rw (same-check m n q (λ d g. let z : d ≡ receives k = cc in rw z f)) (received-same (checkOf a m) k f)
     change s t seal-alike (receives k) e f = f
     change s t (seal-alike {id = id} {m = m}) (sends k) e f =
         rw (same-seal id m (λ d g. let z : d ≡ sends k = cc in rw z f)) (sent-same (sealOf b id m) k f)

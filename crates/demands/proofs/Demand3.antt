@@ -18,7 +18,7 @@ use Rattle.delayed_auth.specs.declared.Verdict.the-variants.{Accepted, Refused}
 use Rattle.delayed_auth.specs.Check.{checkOf, receivedAfter}
 use Rattle.demands.specs.Demand3.{Step, check, seal, Answer, checked, bookAfter, answers, ending, bookAt, Rearranged, SameRun, Demand3}
 use Rattle.demands.proofs.Runs.{some-at, lt-at, never-falls, next-at, answer-at, inv-at, inv-end, same-answer, same-ends}
-use Rattle.demands.proofs.Steps.{SameIds, ids-refl, step-keeps, received-room, sent-room, check-relayed, accepted-at, replays, not-accepted}
+use Rattle.demands.proofs.Steps.{SameIds, ids-refl, step-keeps, received-room, sent-room, check-reads, accepted-at, replays, not-accepted}
 use Rattle.demands.proofs.ByRow.{walk, Channel, channel?, receives, sends, holds, Alike, alike, channel, one-secret, local}
 
 module _ (b₀ : Book) (sound : Sound b₀) where
@@ -116,7 +116,8 @@ module _ (b₀ : Book) (sound : Sound b₀) where
           let a = bookAt b₀ run i in
           let b = bookAt b₀ run j in
           let again = replays b₀ a b m k c (ids-at run i) (ids-at run j) accepted-i (held-after (lt-at run j (check n) at-j)) in
-          answer-at walk b₀ run j (check n) at-j ∙ ap (λ (v : Verdict). some (checked v)) (check-relayed b m n q ∙ again)
+          let unseen = check-reads b₀ b b (ids-at run j) (ids-at run j) m n q (λ id k e f. refl) in
+          answer-at walk b₀ run j (check n) at-j ∙ ap (λ (v : Verdict). some (checked v)) (unseen ∙ again)
 
 pub demand-3 : Demand3
 demand-3 = record {

@@ -1,140 +1,152 @@
--- What an answer depends on, proved: stage by stage, two books that agree in what the stage looks at give the same.
+-- What an answer depends on, proved: the case that one book's answer is in (proofs/Stages.antt) is the other's too, where they agree in what it says.
 use mathlib.Core.Path.{_≡_, refl, sym, ap, _∙_}
-use mathlib.Core.Bool.{Bool, true, false}
 use mathlib.Core.List.{List, _++_}
 use mathlib.Core.Option.{Option, none, some}
 use Prim.Native.Nat.{ℕ, _+_, _<_}
 use native.Mathlib.Omega.{arith}
-use lib.Dec.{eqb}
-use lib.ListN.{length, getD, take, length-take}
+use lib.ListN.{length, take, length-take}
 use lib.Seq.{getD-take, ext-getD}
 use Rattle.hmac_md5.specs.Hmac.{hmac}
 use Rattle.dhcp_message.specs.Layout.{macSize, sealSize}
 use Rattle.octets.specs.Bytes.{zeros}
-use Rattle.dhcp_message.specs.Said.{Said, refused, says, saidOf, idOf, named, formOf}
+use Rattle.dhcp_message.specs.Said.{says, saidOf, formOf}
 use Rattle.dhcp_message.specs.Image.{imageOf}
-use Rattle.dhcp_message.specs.Seal.{fields, sealedWith, withFields}
+use Rattle.dhcp_message.specs.Seal.{fields, sealedWith, withFields, Sealed}
 use Rattle.dhcp_message.specs.declared.Auth.{Auth}
-use Rattle.dhcp_message.specs.declared.Form.{Form}
-use Rattle.dhcp_message.specs.declared.Form.the-variants.{Refused as FormRefused, Full}
+use Rattle.dhcp_message.specs.declared.Form.the-variants.{Full}
 use Rattle.dhcp_message.proofs.Seals.{seal-laws}
-use Rattle.key_book.specs.Book.{Book, Sound, sound, rowOf, keyOf}
+use Rattle.key_book.specs.Book.{Book, Sound, rowOf, keyOf}
 use Rattle.key_book.proofs.Says.{sound-says, sound-depends, row-depends, row-says, key-depends}
-use Rattle.delayed_auth.specs.Check.{judgedRow, judgedSaid, judgedSound, checkOf}
-use Rattle.delayed_auth.specs.Key.{keyedRow, keyedSaid, keyedSound, keyedOf, keyBytes}
-use Rattle.delayed_auth.specs.Seal.{counterMost, sealedMessage, sealedCounter, sealedRow, sealedForm, sealedSound, sealOf}
+use Rattle.delayed_auth.specs.declared.Verdict.{Verdict}
+use Rattle.delayed_auth.specs.declared.Keyed.{Keyed}
+use Rattle.delayed_auth.specs.declared.Keyed.the-variants.{Row, NoKey}
+use Rattle.delayed_auth.specs.Check.{checkOf}
+use Rattle.delayed_auth.specs.Key.{keyedOf, keyBytes}
+use Rattle.delayed_auth.specs.Seal.{Outcome, sealOf}
 use Rattle.demands.specs.Accepts.{Names}
 use Rattle.demands.specs.Dependence.{SameSecrets, SameForCheck, SameForSeal, SameInUse, Dependence}
-use Rattle.demands.proofs.Stages.{hmac-size}
+use Rattle.demands.specs.Demand1.{Claims}
+use Rattle.demands.proofs.Below.{never, hmac-size, said-form}
+use Rattle.demands.proofs.Stages.{CheckCase, check-unsound, check-refused, check-unknown, check-replay, check-wrong, check-accepts}
+use Rattle.demands.proofs.Stages.{check-case, case-check, KeyCase, key-unsound, key-refused, key-unknown, key-names, key-case, case-key}
+use Rattle.demands.proofs.Stages.{SealCase, seal-unsound, seal-refused, seal-unknown, seal-spent, seal-seals, seal-case, case-seal}
+
+-- ---- two books with the same soundness and ids
+
+module _ (a b : Book) (w : SameSecrets a b) where
+  sound-too : Sound a → Sound b
+  sound-too s = sound-says b .0 (sym (w .soundness) ∙ sound-says a .1 s)
+
+  unsound-too : (Sound a → ⊥) → Sound b → ⊥
+  unsound-too h s = h (sound-says a .0 (w .soundness ∙ sound-says b .1 s))
+
+  row-too : (id : ℕ) (o : Option ℕ) → rowOf a id ≡ o → rowOf b id ≡ o
+  row-too id o e = sym (row-depends a b id (w .ids)) ∙ e
 
 -- ---- check and key
 
+-- the message may be another one too that says the same and has the same image
+pub check-same : (a b : Book) (m n : List ℕ) → SameForCheck a b m → saidOf n ≡ saidOf m → imageOf n ≡ imageOf m → checkOf b n ≡ checkOf a m
+check-same a b m n w said image = case-check b n (checkOf a m) (same (checkOf a m) (check-case a m))
+  where
+    names : {c k : ℕ} {mac : List ℕ} → Claims a m c k mac → Names a m k
+    names {c} {k} {mac} x = record { id = x .id; form = said-form m (says c (x .id) mac) (x .form) .name; secret = x .secret }
+
+    claims : {c k : ℕ} {mac : List ℕ} → Claims a m c k mac → Claims b n c k mac
+    claims {k = k} x = record { id = x .id; form = said ∙ x .form; secret = row-too a b (w .secrets) (x .id) (some k) (x .secret) }
+
+    good : Sound a → Sound b
+    good = sound-too a b (w .secrets)
+
+    same : (v : Verdict) → CheckCase a m v → CheckCase b n v
+    same v (check-unsound h) = check-unsound (unsound-too a b (w .secrets) h)
+    same v (check-refused s e) = check-refused (good s) (said ∙ e)
+    same v (check-unknown c id mac s e f) = check-unknown c id mac (good s) (said ∙ e) (row-too a b (w .secrets) id none f)
+    same v (check-replay c k mac s x h) = check-replay c k mac (good s) (claims x) (rw (w .received k s (names x)) at h)
+    same v (check-wrong c k mac s x h g) =
+        check-wrong c k mac (good s) (claims x) (rw (w .received k s (names x)) at h) (rw (w .key k s (names x), ← image) at g)
+    same v (check-accepts {k} {c} s x) =
+        let claim : Claims a m c k (x .mac) = record { id = x .id; form = x .form; secret = x .secret } in
+        check-accepts (good s) (record {
+          id = x .id;
+          mac = x .mac;
+          form = said ∙ x .form;
+          secret = claims claim .secret;
+          above = rw (w .received k s (names claim)) at (x .above);
+          right = rw (w .key k s (names claim), ← image) at (x .right);
+        })
+
 module _ (a b : Book) (m : List ℕ) where
   pub check-depends : SameForCheck a b m → checkOf a m ≡ checkOf b m
-  unfolding checkOf judgedSound judgedSaid judgedRow named
-  check-depends w = on (sound a) refl ∙ ap (judgedSound b m) (w .secrets .soundness)
-    where
-      row : Sound a → (c id : ℕ) (mac : List ℕ) → named m ≡ some id → (o : Option ℕ) → rowOf a id ≡ o → judgedRow a m c mac o ≡ judgedRow b m c mac o
-      row s c id mac e none f = refl
-      row s c id mac e (some k) f =
-          let n : Names a m k = record { id = id; form = e; secret = f } in
-          let key : keyOf a k ≡ keyOf b k = w .key k s n in
-          let received : getD (a .received) k 0 ≡ getD (b .received) k 0 = w .received k s n in
-          rw (key, received)
-
-      said : Sound a → (x : Said) → saidOf m ≡ x → judgedSaid a m x ≡ judgedSaid b m x
-      said s (refused r) e = refl
-      said s (says c id mac) e = row s c id mac (ap idOf e) (rowOf a id) refl ∙ ap (judgedRow b m c mac) (row-depends a b id (w .secrets .ids))
-
-      on : (t : Bool) → sound a ≡ t → judgedSound a m t ≡ judgedSound b m t
-      on false e = refl
-      on true e = said (sound-says a .0 e) (saidOf m) refl
+  check-depends w = sym (check-same a b m m w refl refl)
 
   module _ (w : SameSecrets a b) where
-    keyed-said : (x : Said) → keyedSaid a x ≡ keyedSaid b x
-    unfolding keyedSaid
-    keyed-said (refused r) = refl
-    keyed-said (says c id mac) = ap keyedRow (row-depends a b id (w .ids))
-
-    keyed-sound : (t : Bool) → keyedSound a m t ≡ keyedSound b m t
-    unfolding keyedSound
-    keyed-sound false = refl
-    keyed-sound true = keyed-said (saidOf m)
-
     pub keyed-depends : keyedOf a m ≡ keyedOf b m
-    unfolding keyedOf
-    keyed-depends = keyed-sound (sound a) ∙ ap (keyedSound b m) (w .soundness)
+    keyed-depends = sym (case-key b m (keyedOf a m) (same (keyedOf a m) (key-case a m)))
+      where
+        same : (v : Keyed) → KeyCase a m v → KeyCase b m v
+        same v (key-unsound h) = key-unsound (unsound-too a b w h)
+        same v (key-refused s e) = key-refused (sound-too a b w s) e
+        same v (key-unknown id s e f) = key-unknown id (sound-too a b w s) e (row-too a b w id none f)
+        same v (key-names {k} s n) =
+            key-names (sound-too a b w s) (record { id = n .id; form = n .form; secret = row-too a b w (n .id) (some k) (n .secret) })
 
     pub key-bytes-depend : ((k : ℕ) → Sound a → Names a m k → keyOf a k ≡ keyOf b k) → keyBytes a (keyedOf a m) ≡ keyBytes b (keyedOf b m)
-    unfolding keyedOf keyedSound keyedSaid named
-    key-bytes-depend same = on (sound a) refl ∙ ap (keyBytes b) keyed-depends
+    key-bytes-depend same = on (keyedOf a m) (key-case a m) ∙ ap (keyBytes b) keyed-depends
       where
-        row : Sound a → (id : ℕ) → named m ≡ some id → (o : Option ℕ) → rowOf a id ≡ o → keyBytes a (keyedRow o) ≡ keyBytes b (keyedRow o)
-        row s id e none f = refl
-        row s id e (some k) f = same k s (record { id = id; form = e; secret = f })
-
-        said : Sound a → (x : Said) → saidOf m ≡ x → keyBytes a (keyedSaid a x) ≡ keyBytes b (keyedSaid a x)
-        said s (refused r) e = refl
-        said s (says c id mac) e = row s id (ap idOf e) (rowOf a id) refl
-
-        on : (t : Bool) → sound a ≡ t → keyBytes a (keyedSound a m t) ≡ keyBytes b (keyedSound a m t)
-        on false e = refl
-        on true e = said (sound-says a .0 e) (saidOf m) refl
+        on : (v : Keyed) → KeyCase a m v → keyBytes a v ≡ keyBytes b v
+        on (NoKey r) x = refl
+        on (Row k) (key-names s n) = same k s n
 
 -- ---- seal
 
 module _ (a b : Book) (id : ℕ) (m : List ℕ) where
   pub seal-depends : SameForSeal a b id → sealOf a id m ≡ sealOf b id m
-  unfolding sealOf sealedSound sealedForm sealedRow
-  seal-depends w = on (sound a) refl ∙ ap (sealedSound b id m) (w .secrets .soundness)
+  seal-depends w = sym (case-seal b id m (sealOf a id m) (same (sealOf a id m) (seal-case a id m)))
     where
-      counter : (x : Auth) (k : ℕ) → keyOf a k ≡ keyOf b k → getD (a .sent) k 0 ≡ getD (b .sent) k 0 → (t : Bool) → sealedCounter a m x id k t ≡ sealedCounter b m x id k t
-      counter x k e f true = refl
-      counter x k e f false = rw (e, f)
+      same : (o : Outcome) → SealCase a id m o → SealCase b id m o
+      same o (seal-unsound h) = seal-unsound (unsound-too a b (w .secrets) h)
+      same o (seal-refused s e) = seal-refused (sound-too a b (w .secrets) s) e
+      same o (seal-unknown x s e f) = seal-unknown x (sound-too a b (w .secrets) s) e (row-too a b (w .secrets) id none f)
+      same o (seal-spent x k s e f h) =
+          seal-spent x k (sound-too a b (w .secrets) s) e (row-too a b (w .secrets) id (some k) f) (sym (w .sent k s f) ∙ h)
+      same o (seal-seals {k} s x) =
+          let sent = w .sent k s (x .secret) in
+          seal-seals (sound-too a b (w .secrets) s) (record {
+            auth = x .auth;
+            form = x .form;
+            secret = row-too a b (w .secrets) id (some k) (x .secret);
+            unspent = rw sent at (x .unspent);
+            next = rw sent at (x .next);
+            message = rw (w .key k s (x .secret)) at (x .message);
+          })
 
-      row : Sound a → (x : Auth) (o : Option ℕ) → rowOf a id ≡ o → sealedRow a m x id o ≡ sealedRow b m x id o
-      row s x none f = refl
-      row s x (some k) f =
-          counter x k (w .key k s f) (w .sent k s f) (eqb (getD (a .sent) k 0) counterMost)
-          ∙ ap (λ (n : ℕ). sealedCounter b m x id k (eqb n counterMost)) (w .sent k s f)
-
-      form : Sound a → (f : Form) → sealedForm a m id f ≡ sealedForm b m id f
-      form s (FormRefused r) = refl
-      form s (Full x) = row s x (rowOf a id) refl ∙ ap (sealedRow b m x id) (row-depends a b id (w .secrets .ids))
-
-      on : (t : Bool) → sound a ≡ t → sealedSound a id m t ≡ sealedSound b id m t
-      on false e = refl
-      on true e = form (sound-says a .0 e) (formOf m)
-
--- two messages of one place for option 90, written with the same 28 bytes, are one
-module _ (b : Book) (id : ℕ) (m n : List ℕ) (x y : Auth) (same : (new : List ℕ) → length new ≡ sealSize → sealedWith x new n ≡ sealedWith y new m) where
-  message-depends : (key : List ℕ) (c : ℕ) → sealedMessage key n x c id ≡ sealedMessage key m y c id
-  unfolding sealedMessage
-  message-depends key c =
-      let image = imageOf (sealedWith y (fields c id ++ zeros macSize) m) in
-      rw (same (fields c id ++ zeros macSize) (seal-laws .seal-size c id (zeros macSize) refl))
-      (same (fields c id ++ hmac key image) (seal-laws .seal-size c id (hmac key image) (hmac-size key image)))
-
-  row-fields : (o : Option ℕ) → sealedRow b n x id o ≡ sealedRow b m y id o
-  unfolding sealedRow
-  row-fields none = refl
-  row-fields (some k) = on (eqb (getD (b .sent) k 0) counterMost)
-    where
-      on : (t : Bool) → sealedCounter b n x id k t ≡ sealedCounter b m y id k t
-      on true = refl
-      on false = rw (message-depends (keyOf b k) (getD (b .sent) k 0 + 1))
-
+-- the message with other bytes in the places that a seal writes is sealed to the same bytes
 module _ (b : Book) (id : ℕ) (m : List ℕ) (a : Auth) (other : List ℕ) (form : formOf m ≡ Full a) (size : length other ≡ sealSize) where
-  fields-sound : (t : Bool) → sealedSound b id (sealedWith a other m) t ≡ sealedSound b id m t
-  unfolding sealedSound sealedForm
-  fields-sound false = refl
-  fields-sound true =
-      let w = seal-laws .seals m a other form size in
-      rw (w .form, form) (row-fields b id m (sealedWith a other m) (withFields a _ _) a (λ new e. w .again new e) (rowOf b id))
-
   pub fields-depend : sealOf b id (sealedWith a other m) ≡ sealOf b id m
-  unfolding sealOf
-  fields-depend = fields-sound (sound b)
+  fields-depend = case-seal b id (sealedWith a other m) (sealOf b id m) (same (sealOf b id m) (seal-case b id m))
+    where
+      w : Sealed m a other
+      w = seal-laws .seals m a other form size
+
+      same : (o : Outcome) → SealCase b id m o → SealCase b id (sealedWith a other m) o
+      same o (seal-unsound h) = seal-unsound h
+      same o (seal-refused s e) = never cc
+      same o (seal-unknown x s e f) = seal-unknown _ s (w .form) f
+      same o (seal-spent x k s e f h) = seal-spent _ k s (w .form) f h
+      same o (seal-seals {k} {c} {n} s x) =
+          let auth : x .auth ≡ a = cc (x .form, form) in
+          let image = imageOf (sealedWith a (fields c id ++ zeros macSize) m) in
+          let new = fields c id ++ hmac (keyOf b k) image in
+          seal-seals s (record {
+            auth = withFields a _ _;
+            form = w .form;
+            secret = x .secret;
+            unspent = x .unspent;
+            next = x .next;
+            message = rw auth at (x .message)
+                ∙ sym (rw (w .again (fields c id ++ zeros macSize) refl) (w .again new (omega (arith, hmac-size (keyOf b k) image))));
+          })
 
 -- ---- the rows in use
 

@@ -94,7 +94,7 @@ module _ (id k : ℕ) where
       on : (o : Outcome) → sealOf b j m ≡ o → getD (sentAfter o (b .sent)) k 0 ≡ getD (b .sent) k 0 + oneIf id j (sealingOf o)
       on (unsealed r) e = omega arith
       on (sealed r c n) e =
-          let w = sealed-by b j m r c n s e in
+          let w = sealed-by b j m r c n e in
           elim (ℕ-discrete j id) [
             | yes g ↦
                 let here : r ≡ k = Option·some-injective _ _ (sym (w .secret) ∙ ap (rowOf b) g ∙ row) in

@@ -1,34 +1,26 @@
 -- After the largest counter is accepted the row holds it for good (`held-after`), and no message of bytes says a larger one.
-use mathlib.Core.Path.{_≡_, refl, ap, _∙_}
+use mathlib.Core.Path.{_≡_}
 use mathlib.Core.List.{List}
 use Prim.Native.Nat.{ℕ, _^_, _<_}
 use native.Mathlib.Omega.{arith}
 use Rattle.octets.specs.Bytes.{Bytes}
-use Rattle.dhcp_message.specs.Message.{Checked, stopped, passed, checkedOf}
-use Rattle.dhcp_message.specs.Said.{says, saidOf, saidIn, placesOf, authOf, formIn, formOf}
-use Rattle.dhcp_message.specs.declared.Auth.{Auth}
-use Rattle.dhcp_message.specs.declared.Form.the-variants.{Full}
+use Rattle.dhcp_message.specs.Said.{says, saidOf}
 use Rattle.dhcp_message.proofs.Seals.{seal-laws}
 use Rattle.delayed_auth.specs.Seal.{counterMost}
 use Rattle.demands.specs.Demand3.{check, bookAt}
 use Rattle.demands.specs.LastCounter.{LastCounter}
-use Rattle.demands.proofs.Stages.{never, accepted-accepts}
+use Rattle.demands.proofs.Below.{said-form}
+use Rattle.demands.proofs.Stages.{accepted-accepts}
 use Rattle.demands.proofs.Runs.{lt-at}
-use Rattle.demands.proofs.Demand3.{sound-at, accepted-there, held-after}
+use Rattle.demands.proofs.Demand3.{accepted-there, held-after}
 
 -- the counter that a message of bytes says fits eight bytes
 counter-fits : (m : List ℕ) (c id : ℕ) (mac : List ℕ) → Bytes m → saidOf m ≡ says c id mac → c < 2 ^ 64
-unfolding saidOf formOf
-counter-fits m c id mac h e = on (checkedOf m) refl e
-  where
-    on : (x : Checked) → checkedOf m ≡ x → saidIn x ≡ says c id mac → c < 2 ^ 64
-    on (stopped r) f g = never cc
-    on (passed ts rest) f g =
-        let a : Auth = authOf (placesOf ts) c id in
-        let full : formOf m ≡ Full a = ap formIn f ∙ rw g in
-        seal-laws .full m a full .counter-size h
+counter-fits m c id mac h e =
+    let w = said-form m (says c id mac) e in
+    omega (arith, seal-laws .full m (w .auth) (w .form) .counter-size h, w .counter)
 
 pub last-counter : LastCounter
 last-counter b s run i j m n k c l e f g h a =
-    let x = accepted-accepts (bookAt b run j) n k c (sound-at b s run j) (accepted-there b s run j n k c g a) in
+    let x = accepted-accepts (bookAt b run j) n k c (accepted-there b s run j n k c g a) in
     omega (arith, x .above, held-after b s run i j m k counterMost l e f (lt-at run j (check n) g), counter-fits n c (x .id) (x .mac) h (x .form))

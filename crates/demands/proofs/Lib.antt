@@ -1,3 +1,4 @@
+pub mod Below
 pub mod Stages
 pub mod Demand2
 pub mod Dependence
@@ -8,7 +9,10 @@ pub mod ByRow
 pub mod Demand3
 pub mod Woven
 pub mod LastCounter
-pub mod Lowest
+pub mod History
+pub mod DemandCheck
+pub mod DemandSeal
+pub mod DemandDigests
+pub mod DemandCards
 pub mod Demand1
 pub mod Bench
-pub mod History

@@ -7,7 +7,7 @@ use mathlib.Core.Option.{some}
 use Prim.Native.Nat.{ℕ, _≤_, _<_}
 use lib.ListN.{length, getD, take, length-set}
 use Rattle.refusal.specs.declared.Refusal.the-variants.{Replay}
-use Rattle.dhcp_message.specs.Said.{idOf, named}
+use Rattle.dhcp_message.specs.Said.{says, named}
 use Rattle.dhcp_message.specs.Relay.{Relayed}
 use Rattle.dhcp_message.proofs.Relays.{relay-keeps}
 use Rattle.key_book.specs.Book.{Book, Sound, bookOf, rowOf, keyOf}
@@ -20,9 +20,11 @@ use Rattle.delayed_auth.specs.Seal.{Outcome, sealed, unsealed, sealOf, sentAfte
 use Rattle.demands.specs.Accepts.{Accepts, Names}
 use Rattle.demands.specs.Dependence.{SameSecrets}
 use Rattle.demands.specs.Demand3.{Step, check, seal, bookAfter}
-use Rattle.demands.proofs.Stages.{accepted-accepts, replay-refused, check-same, sealed-by}
+use Rattle.demands.proofs.Below.{said-form}
+use Rattle.demands.proofs.Stages.{check-replay}
+use Rattle.demands.proofs.Stages.{case-check, accepted-accepts, sealed-by}
 use Rattle.demands.proofs.Demand2.{demand-2}
-use Rattle.demands.proofs.Dependence.{check-depends, seal-depends}
+use Rattle.demands.proofs.Dependence.{check-same, seal-depends}
 
 -- ---- the books of a run: sound, with the ids, the row count and the room of the first one
 
@@ -90,9 +92,6 @@ single b i j k e f = sym (row-says .row b i k .0 e .named) ∙ row-says .row b j
 pub name-relayed : (m n : List ℕ) → Relayed m n → named n ≡ named m
 name-relayed m n q = relay-keeps .often m n q .name
 
-pub check-relayed : (b : Book) (m n : List ℕ) → Relayed m n → checkOf b n ≡ checkOf b m
-check-relayed b m n q = let w = relay-keeps .often m n q in check-same b m n (w .said) (w .image)
-
 -- what a check goes by of a row, and what a seal goes by: its key, and one of its counters
 abbrev pub receivedRow : ℕ → Book → List ℕ × ℕ
 receivedRow k b = (keyOf b k, getD (b .received) k 0)
@@ -104,12 +103,13 @@ module _ (b₀ a b : Book) (v : SameIds b₀ a) (w : SameIds b₀ b) where
   secrets : SameSecrets a b
   secrets = record { soundness = sound-says a .1 (v .is-sound) ∙ sym (sound-says b .1 (w .is-sound)); ids = v .ids ∙ sym (w .ids) }
 
-  pub check-reads : (m : List ℕ) → ((id k : ℕ) → named m ≡ some id → rowOf b₀ id ≡ some k → receivedRow k a ≡ receivedRow k b) → checkOf a m ≡ checkOf b m
-  check-reads m h = check-depends a b m (record {
+  pub check-reads : (m n : List ℕ) → Relayed m n → ((id k : ℕ) → named m ≡ some id → rowOf b₀ id ≡ some k → receivedRow k a ≡ receivedRow k b)
+      → checkOf b n ≡ checkOf a m
+  check-reads m n q h = check-same a b m n (record {
     secrets = secrets;
-    key = λ k s n. ap (λ (x : List ℕ × ℕ). x .0) (at k n);
-    received = λ k s n. ap (λ (x : List ℕ × ℕ). x .1) (at k n);
-  })
+    key = λ k s w. ap (λ (x : List ℕ × ℕ). x .0) (at k w);
+    received = λ k s w. ap (λ (x : List ℕ × ℕ). x .1) (at k w);
+  }) (relay-keeps .often m n q .said) (relay-keeps .often m n q .image)
     where
       at : (k : ℕ) → Names a m k → receivedRow k a ≡ receivedRow k b
       at k n = h (n .id) k (n .form) (sym (row-kept b₀ a v (n .id)) ∙ n .secret)
@@ -133,26 +133,26 @@ pub record AcceptedAt (b : Book) (m : List ℕ) (k c : ℕ) : Type 0 where
   pub above : getD (b .received) k 0 < c
 
 pub accepted-at : (b : Book) (m : List ℕ) (k c : ℕ) → Sound b → checkOf b m ≡ Accepted k c → AcceptedAt b m k c
-unfolding named
 accepted-at b m k c s e =
-    let a = accepted-accepts b m k c s e in
+    let a = accepted-accepts b m k c e in
     record {
       id = a .id;
-      name = ap idOf (a .form);
+      name = said-form m (says c (a .id) (a .mac)) (a .form) .name;
       row = a .secret;
       inside = rows-within b s k (row-says .row b (a .id) k .0 (a .secret) .used) .in-received;
       above = a .above;
     }
 
 pub sealed-at : (b : Book) (id : ℕ) (m : List ℕ) (k c : ℕ) (n : List ℕ) → Sound b → sealOf b id m ≡ sealed k c n → rowOf b id ≡ some k
-sealed-at b id m k c n s e = sealed-by b id m k c n s e .secret
+sealed-at b id m k c n s e = sealed-by b id m k c n e .secret
 
 -- an accepted message is a replay where the row's counter is at least its own
 pub replays : (b₀ a b : Book) (m : List ℕ) (k c : ℕ) → SameIds b₀ a → SameIds b₀ b → checkOf a m ≡ Accepted k c → c ≤ getD (b .received) k 0
     → checkOf b m ≡ Refused Replay
 replays b₀ a b m k c v w e h =
-    let x = accepted-accepts a m k c (v .is-sound) e in
-    replay-refused b m (w .is-sound) c (x .id) k (x .mac) (x .form) (row-kept b₀ b w (x .id) ∙ sym (row-kept b₀ a v (x .id)) ∙ x .secret) h
+    let x = accepted-accepts a m k c e in
+    let row = row-kept b₀ b w (x .id) ∙ sym (row-kept b₀ a v (x .id)) ∙ x .secret in
+    case-check b m _ (check-replay c k (x .mac) (w .is-sound) (record { id = x .id; form = x .form; secret = row }) h)
 
 -- a message that demand 2 doesn't accept leaves the counters as they are
 pub not-accepted : (b : Book) (m : List ℕ) → Sound b → ((k c : ℕ) → Accepts b m k c → ⊥) → receivedAfter (checkOf b m) (b .received) ≡ b .received

@@ -1,4 +1,4 @@
--- When a check accepts, when a message has a key, and when a seal seals, in plain sight: document 00, demand 2.
+-- When a check accepts, when a message has a key, and when a seal seals, in plain sight (docs/RULES.md, 'The demands', 'Check', 'Key of a message', 'Seal').
 use Prim.Native.Nat.{ℕ, _+_, _<_}
 use mathlib.Core.Path.{_≡_}
 use mathlib.Core.List.{List, _++_}

@@ -1,15 +1,18 @@
--- Demand 1 (document 00; document 01, 'Numbers given back'): any bytes, any book. For each entry it is said when each of its numbers applies, in
--- the paper's words; the entry gives the lowest number that applies, 0 exactly where none does, and a refusal alters nothing lent.
+-- Demand 1 (docs/RULES.md, 'The demands' and 'Numbers'): any bytes, any book. For each entry it is said when each of its numbers applies, in the
+-- rules' words; the entry gives the lowest number that applies, 0 exactly where none does. A refusal alters nothing lent, but that a digest refused
+-- with 14 is 16 zero bytes.
 -- Nothing is asked of the book; of a message and a card only that their elements are bytes. Its one proof is proofs/Demand1.antt.
 use Prim.Native.Nat.{ℕ, _+_, _<_, _≤_}
 use mathlib.Core.Path.{_≡_}
-use mathlib.Core.Logic.{_↔_, _≢_}
+use mathlib.Core.Logic.{_≢_}
 use mathlib.Core.List.{List, []}
 use mathlib.Core.Option.{some}
 use lib.ListN.{length, getD}
-use Rattle.refusal.specs.Number.{numberOf, done}
+use Rattle.refusal.specs.Number.{done}
+use Rattle.refusal.specs.Lowest.{Lowest}
 use Rattle.refusal.specs.declared.Refusal.{Refusal}
-use Rattle.refusal.specs.declared.Refusal.the-variants.{UnsoundBook, UnknownSecret, Replay, WrongMac, CounterSpent, TooLong, MalformedCard, NoRoomForCard, NoRoomForRows}
+use Rattle.refusal.specs.declared.Refusal.the-variants.{UnsoundBook, UnknownSecret, Replay, WrongMac, CounterSpent, TooLong}
+use Rattle.refusal.specs.declared.Refusal.the-variants.{MalformedCard, NoRoomForCard, NoRoomForRows}
 use Rattle.md5.specs.declared.Digest.{Digest}
 use Rattle.md5.specs.Block.{blockSize}
 use Rattle.md5.specs.Entries.{digestMost, noDigest, feedOf, finishOf, md5Of}
@@ -28,11 +31,6 @@ use Rattle.book_card.specs.Numbers.{Bytes as CardBytes}
 use Rattle.book_card.specs.Reading.{readOf, readBook, readNumber}
 use Rattle.book_card.specs.Writing.{rowsOf, writeOf, roomAfter, writeNumber}
 
--- On one input: the lowest number that applies is given, and none is given otherwise.
-pub record Lowest (AppliesHere : Refusal → Type 0) (number : ℕ) : Type 0 where
-  pub refused : (r : Refusal) → (number ≡ numberOf r) ↔ (AppliesHere r × ((q : Refusal) → numberOf q < numberOf r → AppliesHere q → ⊥))
-  pub none-applies : (number ≡ done) ↔ ((r : Refusal) → AppliesHere r → ⊥)
-
 -- ---- when a number applies
 
 -- a check: the message says counter, id and MAC, and the id has row k
@@ -44,7 +42,7 @@ pub record Claims (b : Book) (m : List ℕ) (counter k : ℕ) (mac : List ℕ) :
 -- 1 to 10: the book is not sound; 2 to 9 as the message has it; the named secret id has no row
 pub data KeyApplies (b : Book) (m : List ℕ) : Refusal → Type 0 where
   not-sound : (Sound b → ⊥) → KeyApplies b m UnsoundBook
-  by-form : {r : Refusal} → Applies r m → KeyApplies b m r
+  by-form : {r : Refusal} → Applies m r → KeyApplies b m r
   no-row : (id : ℕ) → named m ≡ some id → NoRow b id → KeyApplies b m UnknownSecret
 
 -- 1 to 12: those; the counter is not above the row's received one; the MAC differs
@@ -56,7 +54,7 @@ pub data CheckApplies (b : Book) (m : List ℕ) : Refusal → Type 0 where
 -- 1 to 9, then 10 for the given id, then 13: its row has sent the largest counter
 pub data SealApplies (b : Book) (id : ℕ) (m : List ℕ) : Refusal → Type 0 where
   not-sound : (Sound b → ⊥) → SealApplies b id m UnsoundBook
-  by-form : {r : Refusal} → Applies r m → SealApplies b id m r
+  by-form : {r : Refusal} → Applies m r → SealApplies b id m r
   no-row : NoRow b id → SealApplies b id m UnknownSecret
   spent : (k : ℕ) → rowOf b id ≡ some k → getD (b .sent) k 0 ≡ counterMost → SealApplies b id m CounterSpent
 
@@ -89,7 +87,8 @@ pub record Demand1 : Type 0 where
   pub key : (b : Book) (m : List ℕ) → Bytes m → Lowest (KeyApplies b m) (keyNumber (keyedOf b m))
   pub key-empty : (b : Book) (m : List ℕ) → keyNumber (keyedOf b m) ≢ done → (keyBytes b (keyedOf b m) ≡ []) × (keyOffset (keyedOf b m) ≡ 0)
   pub seal : (b : Book) (id : ℕ) (m : List ℕ) → Bytes m → Lowest (SealApplies b id m) (outcomeNumber (sealOf b id m))
-  pub seal-keeps : (b : Book) (id : ℕ) (m : List ℕ) → outcomeNumber (sealOf b id m) ≢ done → (messageAfter (sealOf b id m) m ≡ m) × (sentAfter (sealOf b id m) (b .sent) ≡ b .sent)
+  pub seal-keeps : (b : Book) (id : ℕ) (m : List ℕ) → outcomeNumber (sealOf b id m) ≢ done
+      → (messageAfter (sealOf b id m) m ≡ m) × (sentAfter (sealOf b id m) (b .sent) ≡ b .sent)
   pub feed : (d : Digest) (piece : List ℕ) → Lowest (DigestApplies (d .total + length piece)) (feedOf d piece .number)
   pub feed-keeps : (d : Digest) (piece : List ℕ) → feedOf d piece .number ≢ done → feedOf d piece .state ≡ d
   pub finish : (d : Digest) → Lowest (DigestApplies (d .total)) (finishOf d .number)

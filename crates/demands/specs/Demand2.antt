@@ -1,4 +1,4 @@
--- Demand 2 (document 00): what is accepted, whose key a message has, what is sealed, and that what we seal passes. Its one proof is
+-- Demand 2 (docs/RULES.md, 'The demands'): what is accepted, whose key a message has, what is sealed, and that what we seal passes. Its one proof is
 -- proofs/Demand2.antt.
 use Prim.Native.Nat.{ℕ, _*_, _^_, _<_}
 use mathlib.Core.Path.{_≡_}
@@ -29,7 +29,8 @@ pub record Demand2 : Type 0 where
   -- on a sound book a message is sealed exactly when form, secret and counter allow it, and then as `Seals` says
   pub sealed-when : (b : Book) → Sound b → Lent b → (id : ℕ) (m : List ℕ) (k c : ℕ) (n : List ℕ) → (sealOf b id m ≡ sealed k c n) ↔ Seals b id m k c n
   -- its counter is then stored
-  pub sent : (b : Book) → Sound b → Lent b → (id : ℕ) (m : List ℕ) (k c : ℕ) (n : List ℕ) → Seals b id m k c n → sentAfter (sealOf b id m) (b .sent) ≡ set (b .sent) k c
+  pub sent : (b : Book) → Sound b → Lent b → (id : ℕ) (m : List ℕ) (k c : ℕ) (n : List ℕ) → Seals b id m k c n
+      → sentAfter (sealOf b id m) (b .sent) ≡ set (b .sent) k c
   -- a message we seal passes on any sound book with that key under that id and a lower stored counter
   pub passes : (b d : Book) → Sound b → Lent b → Sound d → (id : ℕ) → id < 2 ^ 32 → (m : List ℕ) (k c : ℕ) (n : List ℕ) → sealOf b id m ≡ sealed k c n
       → (j : ℕ) → rowOf d id ≡ some j → keyOf d j ≡ keyOf b k → getD (d .received) j 0 < c → Accepts d n j c

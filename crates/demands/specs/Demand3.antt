@@ -1,4 +1,4 @@
--- Demand 3 (document 00; document 01, 'Runs'): whole runs of checks and seals, and the second runs that the network can make of them.
+-- Demand 3 (docs/RULES.md, 'The demands' and 'Runs'): whole runs of checks and seals, and the second runs that the network can make of them.
 -- There is no load in a run: loading a card replaces the counters and starts a new run. Its one proof is proofs/Demand3.antt.
 use Prim.Native.Nat.{ℕ, zero, suc, _<_}
 use mathlib.Core.Path.{_≡_}

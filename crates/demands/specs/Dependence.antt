@@ -1,4 +1,4 @@
--- What an entry's answer depends on, and that it depends on nothing else (document 01, 'The key book' and 'Check, key and seal'):
+-- What an entry's answer depends on, and that it depends on nothing else (docs/RULES.md, 'The key book', 'Check' and 'Seal'):
 -- not on another row's key or counter, not on slot bytes past a key, not on rows from r on. Its one proof is proofs/Dependence.antt.
 use Prim.Native.Nat.{ℕ, _+_, _*_, _<_}
 use mathlib.Core.Path.{_≡_}
@@ -46,10 +46,12 @@ pub record Dependence : Type 0 where
   pub check : (a b : Book) (m : List ℕ) → SameForCheck a b m → checkOf a m ≡ checkOf b m
   -- the key entry reads no counter
   pub keyed : (a b : Book) (m : List ℕ) → SameSecrets a b → keyedOf a m ≡ keyedOf b m
-  pub key-bytes : (a b : Book) (m : List ℕ) → SameSecrets a b → ((k : ℕ) → Sound a → Names a m k → keyOf a k ≡ keyOf b k) → keyBytes a (keyedOf a m) ≡ keyBytes b (keyedOf b m)
+  pub key-bytes : (a b : Book) (m : List ℕ) → SameSecrets a b → ((k : ℕ) → Sound a → Names a m k → keyOf a k ≡ keyOf b k)
+      → keyBytes a (keyedOf a m) ≡ keyBytes b (keyedOf b m)
   pub seal : (a b : Book) (id : ℕ) (m : List ℕ) → SameForSeal a b id → sealOf a id m ≡ sealOf b id m
   -- counter, id and MAC found in the message don't matter: with any others in their place the outcome is the same, and so are a sealed message's bytes
-  pub found-fields : (b : Book) (id : ℕ) (m : List ℕ) (a : Auth) (other : List ℕ) → formOf m ≡ Full a → length other ≡ sealSize → sealOf b id (sealedWith a other m) ≡ sealOf b id m
+  pub found-fields : (b : Book) (id : ℕ) (m : List ℕ) (a : Auth) (other : List ℕ) → formOf m ≡ Full a → length other ≡ sealSize
+      → sealOf b id (sealedWith a other m) ≡ sealOf b id m
   -- slot bytes past a key, and rows from r on, affect no answer
   pub check-in-use : (a b : Book) (m : List ℕ) → SameInUse a b → checkOf a m ≡ checkOf b m
   pub key-in-use : (a b : Book) (m : List ℕ) → SameInUse a b → keyBytes a (keyedOf a m) ≡ keyBytes b (keyedOf b m)

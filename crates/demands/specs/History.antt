@@ -1,4 +1,4 @@
--- The book against its history (document 02, M-112), for the runs of demand 3: what the counters of a secret at the end of a run say of what
+-- The book against its history, for the runs of demand 3 (docs/RULES.md, 'Runs'): what the counters of a secret at the end of a run say of what
 -- happened in it, and that one secret's story doesn't depend on another's. For runs of checks and seals. Its one proof is proofs/History.antt.
 use Prim.Native.Nat.{ℕ, _+_, _≤_, _<_}
 use mathlib.Core.Path.{_≡_}

@@ -1,9 +1,9 @@
+pub mod Demand1
 pub mod Accepts
 pub mod Demand2
 pub mod Demand3
-pub mod Dependence
 pub mod Woven
 pub mod LastCounter
-pub mod Demand1
-pub mod Bench
 pub mod History
+pub mod Dependence
+pub mod Bench

@@ -44,4 +44,6 @@ abbrev pub NoneAccepted : Book → List Item → Type 0
 NoneAccepted b items = (p : ℕ) (m : List ℕ) → getElem? items p ≡ some (puts-in m) → (k c : ℕ) → Accepts (bookAt b (runOf items) p) m k c → ⊥
 
 abbrev pub WovenIsRearranged : Type 0
-WovenIsRearranged = (b : Book) (first : List Step) (items : List Item) → Woven first items → NoneAccepted b items → (place : ℕ → ℕ) × Rearranged b first (runOf items) place
+WovenIsRearranged =
+    (b : Book) (first : List Step) (items : List Item) → Woven first items → NoneAccepted b items
+    → (place : ℕ → ℕ) × Rearranged b first (runOf items) place

@@ -30,6 +30,10 @@ module _ (A : Refusal → Type 0) where
         | no g ↦ n (rw (numbers-tell .apart q r (omega arith)) at a)
       ]
 
+  -- nothing below any number is nothing at all
+  pub nothing-below-any : ((n : ℕ) → NothingBelow A n) → (r : Refusal) → A r → ⊥
+  nothing-below-any h r a = h (numberOf r + 1) r (omega arith) a
+
   -- ---- a right answer
 
   abbrev pub Right : Option Refusal → Type 0

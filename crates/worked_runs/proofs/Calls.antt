@@ -1,24 +1,21 @@
 -- The three calls of `check_again` are a run, of which demand 3 speaks: what the first check accepts, the second refuses as a replay.
-use mathlib.Core.Path.{_≡_, refl, sym, ap, _∙_}
-use mathlib.Core.Bool.{Bool, true, false}
+use mathlib.Core.Path.{_≡_, refl, ap, _∙_}
 use mathlib.Core.List.{List, [], _∷_, map}
 use mathlib.Core.Option.{some, Option·some-injective}
-use Prim.Native.Nat.{ℕ, _<_}
+use Prim.Native.Nat.{ℕ}
 use native.Mathlib.Omega.{arith}
-use lib.ListN.{getElem?}
 use Rattle.refusal.specs.Number.{numberOf, done}
 use Rattle.refusal.specs.declared.Refusal.the-variants.{Replay}
 use Rattle.refusal.proofs.Names.{numbers-tell}
 use Rattle.dhcp_message.specs.Relay.{unchanged}
-use Rattle.key_book.specs.Book.{Book, bookOf, Sound, sound}
-use Rattle.key_book.proofs.Says.{sound-says}
+use Rattle.key_book.specs.Book.{Book, bookOf, Sound}
 use Rattle.delayed_auth.specs.declared.Sealing.{Sealing}
 use Rattle.delayed_auth.specs.declared.Verdict.{Verdict}
 use Rattle.delayed_auth.specs.declared.Verdict.the-variants.{Accepted, Refused}
 use Rattle.delayed_auth.specs.Check.{checkOf, receivedAfter, verdictNumber}
 use Rattle.delayed_auth.specs.Seal.{sealOf, sealingOf, sealingNumber, messageAfter, sentAfter}
-use Rattle.delayed_auth.proofs.Judging.{check-unsound}
-use Rattle.demands.specs.Demand3.{check, seal, Answer, checked, wrote, bookAfter, answers, ending}
+use Rattle.demands.specs.Demand3.{check, seal, Answer, checked, bookAfter, answers, ending}
+use Rattle.demands.proofs.Stages.{CheckCase, check-accepts, check-case}
 use Rattle.demands.proofs.Demand3.{demand-3}
 use Rattle.worked_runs.specs.Calls.{again, answerNumber, bufferOf}
 
@@ -35,12 +32,11 @@ module _ (b : Book) (m : List ℕ) (id : ℕ) (n : List ℕ) where
       ap answerNumber same ∙ r .2
 
   pub replayed : verdictNumber (checkOf b m) ≡ done → verdictNumber last ≡ numberOf Replay
-  replayed e = on (sound b) refl (checkOf b m) refl e
+  replayed e = on (checkOf b m) refl (check-case b m) e
     where
-      on : (t : Bool) → sound b ≡ t → (v : Verdict) → checkOf b m ≡ v → verdictNumber v ≡ done → verdictNumber last ≡ numberOf Replay
-      on t f (Refused r) g h = let p = numbers-tell .not-done r in absurd (omega (arith, h))
-      on true f (Accepted k c) g h = accepted-first k c (sound-says b .0 f) g
-      on false f (Accepted k c) g h = let z : _≡_ {A = ℕ} 0 1 = let u = check-unsound b m f in cc in absurd (omega arith)
+      on : (v : Verdict) → checkOf b m ≡ v → CheckCase b m v → verdictNumber v ≡ done → verdictNumber last ≡ numberOf Replay
+      on (Refused r) g w h = let p = numbers-tell .not-done r in absurd (omega (arith, h))
+      on (Accepted k c) g (check-accepts s a) h = accepted-first k c s g
 
 -- each call finds what the one before it left
 module _
@@ -55,14 +51,16 @@ module _
     (second-stores : received₂ ≡ receivedAfter (checkOf (bookOf ids lengths store received₁ sent₁ rows) m) received₁)
     (p-is : p ≡ verdictNumber first) (q-is : q ≡ sealingNumber sealing) (r-is : r ≡ verdictNumber second)
   where
+    abbrev b : Book
+    b = bookOf ids lengths store received sent rows
+
     abbrev run : List Answer
-    run = answers (bookOf ids lengths store received sent rows) (again m id n)
+    run = answers b (again m id n)
 
     pub make-up :
         (p ∷ q ∷ r ∷ [] ≡ map answerNumber run) × (buffer ≡ bufferOf run)
-        × (received₂ ≡ ending (bookOf ids lengths store received sent rows) (again m id n) .received)
-        × (sent₁ ≡ ending (bookOf ids lengths store received sent rows) (again m id n) .sent) × (p ≡ done → r ≡ numberOf Replay)
+        × (received₂ ≡ ending b (again m id n) .received) × (sent₁ ≡ ending b (again m id n) .sent) × (p ≡ done → r ≡ numberOf Replay)
     unfolding again
     make-up =
         rw (p-is, q-is, r-is, second-stores, second-is, seal-leaves, seal-is, seal-stores, first-is, first-stores)
-        (refl, refl, refl, refl, replayed (bookOf ids lengths store received sent rows) m id n)
+        (refl, refl, refl, refl, replayed b m id n)

@@ -1,4 +1,6 @@
 pub mod Calls
+pub mod Computing
+pub mod Network
 pub mod Shuffled
 pub mod Crossed
 pub mod MoreNumbers

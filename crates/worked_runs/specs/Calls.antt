@@ -8,7 +8,7 @@ use Rattle.demands.specs.Demand3.{Step, check, seal, Answer, checked, wrote}
 unfoldable pub again : List ℕ → ℕ → List ℕ → List Step
 again message id buffer = check message ∷ seal id buffer ∷ check message ∷ []
 
--- the paper's number of a step's answer
+-- the number of a step's answer
 abbrev pub answerNumber : Answer → ℕ
 answerNumber (checked v) = verdictNumber v
 answerNumber (wrote s buffer) = sealingNumber s

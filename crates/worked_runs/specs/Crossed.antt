@@ -1,4 +1,4 @@
--- A second run of demand 3, worked out beside Shuffled, with what document 01 lets the network do and that one has not: seals under different
+-- A second run of demand 3, worked out beside Shuffled, with what the rules let the network do and that one has not: seals under different
 -- secrets have changed places, so have two checks that name no secret, a seal among them is refused, option 82 was replaced in one message and
 -- taken out of another, and a check was put in before the first step and behind the last. The header's bytes are all different, and so are
 -- those of ids and large counters. The MACs are those of an outside implementation of HMAC-MD5. Its one proof is proofs/Crossed.antt.

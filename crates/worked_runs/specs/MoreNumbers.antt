@@ -1,7 +1,5 @@
--- A case for each of document 01's numbers that is shown as a number nowhere else: 2 to 9 are in dhcp_message/specs/Bench.antt, 10, 11 and 15 in
--- demands/specs/Bench.antt, 14 in md5/specs/Limits.antt. Book B has one row: id 7, received 10, sent 3, key 1, 2, 3, 4. The one proof is
--- proofs/MoreNumbers.antt.
-use Prim.Native.Nat.{ℕ}
+-- A case for each number (docs/RULES.md, 'Numbers') that is shown as a number nowhere else: 2 to 9 are in dhcp_message/specs/Bench.antt, 10 and 11 in
+-- demands/specs/Bench.antt, 14 in md5/specs/Limits.antt, 15 in card_laws/specs/Examples.antt. The one proof is proofs/MoreNumbers.antt.
 use mathlib.Core.Path.{_≡_}
 use mathlib.Core.List.{[], _∷_}
 use Rattle.key_book.specs.Book.{Book, bookOf}

@@ -1,4 +1,4 @@
--- Books that differ only in what no answer depends on (document 01, 'The key book'): so what demands/specs/Dependence.antt, key_book/specs/Laws.antt
+-- Books that differ only in what no answer depends on (docs/RULES.md, 'The key book'): so what demands/specs/Dependence.antt, key_book/specs/Laws.antt
 -- and card_laws/specs/Laws.antt say of two books speaks of books that differ. The one proof is proofs/OtherBooks.antt.
 use Prim.Native.Nat.{ℕ}
 use mathlib.Core.List.{[], _∷_, _++_}

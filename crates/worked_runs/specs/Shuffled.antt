@@ -14,7 +14,7 @@ use Rattle.delayed_auth.specs.declared.Verdict.the-variants.{Accepted, Refused}
 use Rattle.delayed_auth.specs.declared.Sealing.the-variants.{Sealed}
 use Rattle.demands.specs.Demand3.{Step, check, seal, checked, wrote, answers, ending, Rearranged, SameRun}
 
--- document 01's Book B with a second row: id 8, received 10, sent 3, key 5, 6, 7, 8
+-- Book B (docs/RULES.md, 'Bench examples') with a second row: id 8, received 10, sent 3, key 5, 6, 7, 8
 abbrev pub book : Book
 book = bookOf (7 ∷ 8 ∷ []) (4 ∷ 4 ∷ []) (1 ∷ 2 ∷ 3 ∷ 4 ∷ (zeros 60 ++ (5 ∷ 6 ∷ 7 ∷ 8 ∷ zeros 60))) (10 ∷ 10 ∷ []) (3 ∷ 3 ∷ []) 2
 
@@ -54,7 +54,9 @@ abbrev pub first : List Step
 first = check (sentMessage auth7) ∷ check (sentMessage auth8) ∷ seal 7 toSeal ∷ check (sentMessage auth7) ∷ []
 
 abbrev pub second : List Step
-second = seal 7 toSeal ∷ check forged ∷ check (relayedMessage 2 2 (auth8 ++ relayInfo)) ∷ check (relayedMessage 1 1 (auth7 ++ ended)) ∷ check (sentMessage auth7) ∷ []
+second =
+    seal 7 toSeal ∷ check forged ∷ check (relayedMessage 2 2 (auth8 ++ relayInfo)) ∷ check (relayedMessage 1 1 (auth7 ++ ended))
+    ∷ check (sentMessage auth7) ∷ []
 
 abbrev pub place : ℕ → ℕ
 place zero = 3

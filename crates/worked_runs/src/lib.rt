@@ -53,24 +53,20 @@ pub fn check_again(
     buffer: &mut [u8],
 ) -> Numbers
     ensures numbers { λ r. ⌜
-        r .first ∷ r .sealed ∷ r .second ∷ []
-        ≡ map answerNumber (answers (bookOf (now (ids .entry)) (now (lengths .entry)) (now (store .entry)) (now (received .entry)) (now (sent .entry)) rows)
-        (again (now (message .entry)) id (now (buffer .entry))))
+        (let b = bookOf (now (ids .entry)) (now (lengths .entry)) (now (store .entry)) (now (received .entry)) (now (sent .entry)) rows in
+        r .first ∷ r .sealed ∷ r .second ∷ [] ≡ map answerNumber (answers b (again (now (message .entry)) id (now (buffer .entry)))))
         ⌝ }
     ensures sealed { λ _. ⌜
-        now (buffer .exit)
-        ≡ bufferOf (answers (bookOf (now (ids .entry)) (now (lengths .entry)) (now (store .entry)) (now (received .entry)) (now (sent .entry)) rows)
-        (again (now (message .entry)) id (now (buffer .entry))))
+        (let b = bookOf (now (ids .entry)) (now (lengths .entry)) (now (store .entry)) (now (received .entry)) (now (sent .entry)) rows in
+        now (buffer .exit) ≡ bufferOf (answers b (again (now (message .entry)) id (now (buffer .entry)))))
         ⌝ }
     ensures received { λ _. ⌜
-        now (received .exit)
-        ≡ ending (bookOf (now (ids .entry)) (now (lengths .entry)) (now (store .entry)) (now (received .entry)) (now (sent .entry)) rows)
-        (again (now (message .entry)) id (now (buffer .entry))) .received
+        (let b = bookOf (now (ids .entry)) (now (lengths .entry)) (now (store .entry)) (now (received .entry)) (now (sent .entry)) rows in
+        now (received .exit) ≡ ending b (again (now (message .entry)) id (now (buffer .entry))) .received)
         ⌝ }
     ensures sent { λ _. ⌜
-        now (sent .exit)
-        ≡ ending (bookOf (now (ids .entry)) (now (lengths .entry)) (now (store .entry)) (now (received .entry)) (now (sent .entry)) rows)
-        (again (now (message .entry)) id (now (buffer .entry))) .sent
+        (let b = bookOf (now (ids .entry)) (now (lengths .entry)) (now (store .entry)) (now (received .entry)) (now (sent .entry)) rows in
+        now (sent .exit) ≡ ending b (again (now (message .entry)) id (now (buffer .entry))) .sent)
         ⌝ }
     ensures replay { λ r. ⌜ (r .first ≡ done → r .second ≡ numberOf Replay) ⌝ }
 {

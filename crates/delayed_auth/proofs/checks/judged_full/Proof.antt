@@ -5,17 +5,18 @@ use mathlib.Core.Option.{some}
 use lib.ListN.{length}
 use borrow.Author.Tests.{not-true, not-false}
 use Rattle.hmac_md5.specs.Hmac.{hmac}
-use Rattle.dhcp_message.specs.Said.{formOf}
+use Rattle.dhcp_message.specs.Said.{says, formOf}
 use Rattle.dhcp_message.specs.Image.{imageOf}
 use Rattle.dhcp_message.specs.Seal.{FullForm}
 use Rattle.dhcp_message.specs.declared.Form.the-variants.{Full}
 use Rattle.dhcp_message.proofs.Seals.{full-form}
 use Rattle.key_book.specs.Book.{Book, bookOf, sound, rowOf, keyOf}
 use Rattle.key_book.proofs.Answers.{row-at, row-nothing}
+use Rattle.delayed_auth.specs.Admit.{admittedSaid}
 use Rattle.delayed_auth.specs.Check.{sameBytes}
-use Rattle.delayed_auth.proofs.Macs.{macIn, mac-part, mac-length, mac-compared}
-use Rattle.delayed_auth.proofs.Admits.{admitted-full, RowFacts, row-facts}
-use Rattle.delayed_auth.proofs.Judging.{check-unknown, check-replay, check-wrong, check-accepted}
+use Rattle.delayed_auth.proofs.Macs.{macIn, mac-part, mac-length, mac-compared, same-equal, same-differ}
+use Rattle.delayed_auth.proofs.Admits.{full-passed, form-said, RowFacts, row-facts}
+use Rattle.delayed_auth.proofs.Judging.{check-unknown, check-replay, check-wrong, check-accepts, case-check}
 use borrow.Author.Needs.{needs}
 use native.Mathlib.Omega.{arith}
 use Rattle.delayed_auth.proofs.checks.judged_full.Statement.{statement}
@@ -27,7 +28,11 @@ abbrev book : tie.Start → Book
 book s = let a = s .args in bookOf (a .ids .now) (a .lengths .now) (a .store .now) (a .received .now) (a .sent .now) (a .rows)
 
 passed : (s : tie.Start) → (sound (book s) ≡ true) × (formOf (s .args .message .now) ≡ Full (s .args .auth))
-passed s = admitted-full _ _ _ (s .pre)
+passed s = full-passed _ _ _ (s .pre)
+
+said : (s : tie.Start)
+    → let a = s .args in says (a .auth .counter) (a .auth .id) (macIn (a .message .now) (a .auth)) ≡ admittedSaid (book s) (a .message .now)
+said s = form-said _ _ (Full (s .args .auth)) (s .pre)
 
 form : (s : tie.Start) → FullForm (s .args .message .now) (s .args .auth)
 form s = full-form _ _ (passed s .1)
@@ -60,8 +65,8 @@ compared c =
 
 returns : tie.Need-returns
 returns c =
-    let p = passed (c .before .before .before .before .before .before .before .before .before) in
-    check-unknown _ _ (p .0) _ (p .1) (row-nothing _ (sym (c .enum-told .given .1) ∙ c .before .before .row-of .ensures))
+    let row = row-nothing _ (sym (c .enum-told .given .1) ∙ c .before .before .row-of .ensures) in
+    case-check _ _ _ (check-unknown (said (c .before .before .before .before .before .before .before .before .before)) row)
 
 mul-if1 : tie.Need-mul-if1
 mul-if1 c = omega (arith, facts (c .before) .few)
@@ -72,8 +77,7 @@ shared-slice-read-if1 c = facts (c .before .before) .in-received
 returns-2 : tie.Need-returns-2
 returns-2 c =
     let f = c .before .before .before .before in
-    let p = passed (start f) in
-    check-replay _ _ (p .0) _ (p .1) _ (row f) (c .if1 .taken)
+    case-check _ _ _ (check-replay (said (start f)) (row f) (c .if1 .taken))
 
 mac-of-requires : tie.Need-mac-of-requires
 mac-of-requires c κs =
@@ -98,15 +102,15 @@ returns-3 : tie.Need-returns-3
 returns-3 c =
     let e = counted (c .before) in
     let f = found e in
-    let p = passed (start f) in
-    check-wrong _ _ (p .0) _ (p .1) _ (row f) (e .if1 .left) (compared (c .before) ∙ not-true _ (c .if2 .taken))
+    let wrong = same-differ _ _ (compared (c .before) ∙ not-true _ (c .if2 .taken)) in
+    case-check _ _ _ (check-wrong (said (start f)) (row f) (e .if1 .left) wrong)
 
 returns-4 : tie.Need-returns-4
 returns-4 c =
     let e = counted (c .before) in
     let f = found e in
-    let p = passed (start f) in
-    check-accepted _ _ (p .0) _ (p .1) _ (row f) (e .if1 .left) (compared (c .before) ∙ not-false _ (c .if2 .left))
+    let right = same-equal _ _ (compared (c .before) ∙ not-false _ (c .if2 .left)) in
+    case-check _ _ _ (check-accepts (said (start f)) (row f) (e .if1 .left) right)
 
 pub judged-full-spec : {M : Type 1} → statement M
 judged-full-spec =

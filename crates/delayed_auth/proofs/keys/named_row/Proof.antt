@@ -2,24 +2,24 @@
 use mathlib.Core.Path.{sym, _∙_}
 use mathlib.Core.Option.{none, some}
 use Rattle.key_book.proofs.Answers.{row-at, row-nothing}
-use Rattle.delayed_auth.proofs.Naming.{key-refused, key-admitted}
+use Rattle.delayed_auth.proofs.Naming.{form-keyed, row-keyed}
 use borrow.Author.Needs.{needs}
 use Rattle.delayed_auth.proofs.keys.named_row.Statement.{statement}
 use Rattle.delayed_auth.proofs.keys.named_row.Tie as tie
 
 returns : tie.Need-returns
-returns c = key-refused _ _ _ (sym (c .before .form .given .1) ∙ c .before .before .before .admitted .ensures)
+returns c = form-keyed _ _ _ (sym (c .before .form .given .1) ∙ c .before .before .before .admitted .ensures)
 
 returns-2 : tie.Need-returns-2
 returns-2 c =
     let f = c .before .before .before .before .before in
-    key-admitted _ _ _ (sym (f .form2 .given .1) ∙ f .before .before .admitted .ensures) (some _)
+    row-keyed _ _ _ (sym (f .form2 .given .1) ∙ f .before .before .admitted .ensures) (some _)
     (row-at _ _ (sym (c .before .found .given .1) ∙ c .before .before .before .row-of .ensures))
 
 returns-3 : tie.Need-returns-3
 returns-3 c =
     let f = c .before .before .before .before in
-    key-admitted _ _ _ (sym (f .form2 .given .1) ∙ f .before .before .admitted .ensures) none
+    row-keyed _ _ _ (sym (f .form2 .given .1) ∙ f .before .before .admitted .ensures) none
     (row-nothing _ (sym (c .enum-told .given .1) ∙ c .before .before .row-of .ensures))
 
 pub named-row-spec : {M : Type 1} → statement M

@@ -1,13 +1,12 @@
 -- `delayed_auth::planned` meets its contract: each end is one leaf of `planOf` (proofs/Plans.antt).
 use mathlib.Core.Path.{_≡_, sym, _∙_}
-use mathlib.Core.Bool.{true}
 use mathlib.Core.Option.{some}
-use Rattle.dhcp_message.specs.Said.{formOf}
 use Rattle.dhcp_message.specs.declared.Form.the-variants.{Full}
-use Rattle.key_book.specs.Book.{Book, bookOf, sound, rowOf}
+use Rattle.key_book.specs.Book.{Book, bookOf, rowOf}
 use Rattle.key_book.proofs.Answers.{row-at, row-nothing}
-use Rattle.delayed_auth.proofs.Admits.{admitted-full, RowFacts, row-facts}
-use Rattle.delayed_auth.proofs.Plans.{plan-refusal, plan-unknown, plan-spent, plan-ready}
+use Rattle.delayed_auth.specs.Admit.{admittedForm}
+use Rattle.delayed_auth.proofs.Admits.{full-passed, RowFacts, row-facts}
+use Rattle.delayed_auth.proofs.Plans.{plan-refused, plan-unknown, plan-spent, plan-ready, case-plan}
 use borrow.Author.Needs.{needs}
 use native.Mathlib.Omega.{arith}
 use Rattle.delayed_auth.proofs.seals.planned.Statement.{statement}
@@ -21,8 +20,8 @@ start c = c .before .before .before .before .before .before .before .before .bef
 abbrev book : tie.After-form2 → Book
 book c = let a = start c .args in bookOf (a .ids .now) (a .lengths .now) (a .store .now) (a .received .now) (a .sent .now) (a .rows)
 
-passed : (c : tie.After-form2) → (sound (book c) ≡ true) × (formOf (start c .args .message .now) ≡ Full (c .form2 .given .0 .0))
-passed c = admitted-full _ _ _ (sym (c .form2 .given .1) ∙ c .before .before .admitted .ensures)
+full : (c : tie.After-form2) → Full (c .form2 .given .0 .0) ≡ admittedForm (book c) (start c .args .message .now)
+full c = sym (c .form2 .given .1) ∙ c .before .before .admitted .ensures
 
 abbrev form : tie.After-found → tie.After-form2
 form c = c .before .before .before .before
@@ -31,14 +30,14 @@ row : (c : tie.After-found) → rowOf (book (form c)) (start (form c) .args .id)
 row c = row-at _ _ (sym (c .found .given .1) ∙ c .before .before .row-of .ensures)
 
 facts : (c : tie.After-found) → RowFacts (book (form c)) (c .found .given .0 .0)
-facts c = row-facts _ _ _ (passed (form c) .0) (row c)
+facts c = row-facts _ _ _ (full-passed _ _ _ (full (form c)) .0) (row c)
 
 -- ---- the needs
 
 returns : tie.Need-returns
 returns c =
-    let p = passed (c .before .before .before .before) in
-    plan-unknown _ _ _ (p .0) _ (p .1) (row-nothing _ (sym (c .enum-told .given .1) ∙ c .before .before .row-of .ensures))
+    let row = row-nothing _ (sym (c .enum-told .given .1) ∙ c .before .before .row-of .ensures) in
+    case-plan _ _ _ _ (plan-unknown (full (c .before .before .before .before)) row)
 
 mul-if1 : tie.Need-mul-if1
 mul-if1 c = omega (arith, facts (c .before) .few)
@@ -49,17 +48,15 @@ shared-slice-read-if1 c = facts (c .before .before) .in-sent
 returns-2 : tie.Need-returns-2
 returns-2 c =
     let f = c .before .before .before in
-    let p = passed (form f) in
-    plan-spent _ _ _ (p .0) _ (p .1) _ (row f) (c .if1 .taken)
+    case-plan _ _ _ _ (plan-spent (full (form f)) (row f) (c .if1 .taken))
 
 returns-3 : tie.Need-returns-3
-returns-3 c = plan-refusal _ _ _ _ (sym (c .before .form .given .1) ∙ c .before .before .before .admitted .ensures)
+returns-3 c = case-plan _ _ _ _ (plan-refused (sym (c .before .form .given .1) ∙ c .before .before .before .admitted .ensures))
 
 returns-4 : tie.Need-returns-4
 returns-4 c =
     let f = c .before .before .before in
-    let p = passed (form f) in
-    plan-ready _ _ _ (p .0) _ (p .1) _ (row f) (c .if1 .left)
+    case-plan _ _ _ _ (plan-ready (full (form f)) (row f) (c .if1 .left))
 
 pub planned-spec : {M : Type 1} → statement M
 planned-spec =

@@ -2,7 +2,7 @@
 use mathlib.Core.Path.{sym, ap, _∙_}
 use lib.ListN.{length}
 use Rattle.key_book.specs.Book.{Book, bookOf}
-use Rattle.delayed_auth.proofs.Plans.{ReadyBy, ready-by, ends-refused, ends-sealed}
+use Rattle.delayed_auth.proofs.Plans.{ReadyFacts, ready-facts, ends-refused, ends-sealed}
 use borrow.Author.Needs.{needs}
 use native.Mathlib.Omega.{arith}
 use Rattle.delayed_auth.proofs.seals.seal.Statement.{statement}
@@ -17,8 +17,8 @@ abbrev book : tie.Start → Book
 book s = let a = s .args in bookOf (a .ids .now) (a .lengths .now) (a .store .now) (a .received .now) (a .sent .now) (a .rows)
 
 ready : (c : tie.After-plan2)
-    → let s = start c in ReadyBy (book s) (s .args .id) (s .args .message .now) (c .plan2 .given .0 .0) (c .plan2 .given .0 .1 .0)
-ready c = ready-by _ _ _ _ _ (sym (c .plan2 .given .1) ∙ c .before .before .planned .ensures)
+    → let s = start c in ReadyFacts (book s) (s .args .message .now) (c .plan2 .given .0 .0) (c .plan2 .given .0 .1 .0)
+ready c = ready-facts _ _ _ _ _ (sym (c .plan2 .given .1) ∙ c .before .before .planned .ensures)
 
 abbrev plan : tie.After-slice-known4 → tie.After-plan2
 plan c = c .before .before .before .before .before .before .before
@@ -34,7 +34,7 @@ slice-read-counter c = ready (c .before .before) .row .in-sent
 add-counter : tie.Need-add-counter
 add-counter c =
     let p = c .before .before in
-    omega (arith, ready p .unspent, c .slice-known3 .given (p .plan2 .given .0 .1 .0))
+    omega (arith, ready p .left, c .slice-known3 .given (p .plan2 .given .0 .1 .0))
 
 write-seal-requires : tie.Need-write-seal-requires
 write-seal-requires c κs =

@@ -1,0 +1,20 @@
+-- What the worked runs are computed with: `unfolding computing` opens every definition from a check and a seal down to MD5 and the bytes of a message.
+use Prim.Native.Nat.{ℕ}
+use Rattle.octets.specs.Bytes.{written}
+use Rattle.md5.specs.Word.{rotl, auxiliary, wordNo, additive, rotations}
+use Rattle.md5.specs.Block.{stepWith, stepAt, steps, round, compress, wordAt, loadTo, load, blocks}
+use Rattle.md5.specs.Message.{md5, padded, padding, output}
+use Rattle.hmac_md5.specs.Hmac.{masked, hmac}
+use Rattle.dhcp_message.specs.Options.{decodeAt}
+use Rattle.dhcp_message.specs.Message.{checkedTokens, checkedOf}
+use Rattle.dhcp_message.specs.Said.{saidBy, saidOf, named, formOf}
+use Rattle.dhcp_message.specs.Image.{imageOf}
+use Rattle.key_book.specs.Book.{allBelow, sized, ascending, keySizes, sound, placeFrom, rowIn, keyFits, keyIn}
+use Rattle.delayed_auth.specs.Check.{sameBytes, judgedRow, judgedSaid, judgedSound, checkOf}
+use Rattle.delayed_auth.specs.Seal.{sealedMessage, sealedRow, sealedForm, sealedSound, sealOf}
+
+unfoldable pub computing : ℕ
+unfolding rotl auxiliary wordNo additive rotations stepWith stepAt steps round compress wordAt loadTo load blocks md5 padded padding output masked hmac
+    written decodeAt checkedTokens checkedOf saidBy saidOf named formOf imageOf allBelow sized ascending keySizes sound placeFrom rowIn keyFits keyIn
+    sameBytes judgedRow judgedSaid judgedSound checkOf sealedMessage sealedRow sealedForm sealedSound sealOf
+computing = 0
