@@ -1,58 +1,46 @@
 -- Reading a card row by row (specs/Laws.antt, `ReadSays`): each list of the book read is the card's elements laid over the old ones, and a row's slot
 -- stands in the slots laid over the key store.
-use mathlib.Core.Path.{_≡_, refl, sym, ap, _∙_}
+use mathlib.Core.Path.{_≡_, refl, sym, ap, ap₂, _∙_}
 use mathlib.Core.Option.{some}
-use mathlib.Core.List.{List, _++_, map}
+use mathlib.Core.List.{List, map}
 use Prim.Native.Nat.{ℕ, suc, _+_, _-_, _*_, _≤_, _<_}
 use native.Mathlib.Omega.{arith}
-use lib.ListN.{length, getD, drop, replicate, length-map, List·getD-append, getD-replicate}
+use lib.ListN.{length, getD, drop, length-map, List·getD-append}
 use lib.Seq.{getD-drop, getD-append-add}
+use Rattle.octets.specs.Bytes.{written}
+use Rattle.octets.proofs.Written.{written-first, filled-in, filled-behind}
 use Rattle.key_book.specs.Limits.{slotSize}
 use Rattle.key_book.specs.Book.{Book, Sized}
 use Rattle.book_card.specs.Card.{Row, cardOf, noRow, InOrder}
 use Rattle.book_card.specs.Reader.{readCard}
-use Rattle.book_card.specs.Reading.{slotOf, slotsOf, laid, loaded}
+use Rattle.book_card.specs.Reading.{slotsOf, loaded}
 use Rattle.card_laws.specs.Laws.{RowSet, LeftFrom, RowsLeft, RowsRead, ReadSays}
 use Rattle.book_card.proofs.Says.{card-says}
-use Rattle.book_card.proofs.Loads.{Fit, slot-length, slots-length, slots-at}
+use Rattle.book_card.proofs.Slots.{slotOf, Fit, slot-length, slots-length, slots-at}
 use Rattle.card_laws.proofs.Trips.{card-bytes, laid-length, laid-at, given, gives, gives-book}
 
 -- an element past those laid over a list is the old one
-laid-left : (xs old : List ℕ) (n : ℕ) → length xs ≡ n → length xs ≤ length old → LeftFrom n old (laid xs old)
-unfolding laid
+laid-left : (xs old : List ℕ) (n : ℕ) → length xs ≡ n → length xs ≤ length old → LeftFrom n old (written 0 xs old)
 laid-left xs old n e h =
     record {
       same = λ k l.
           let d : length xs + (k - length xs) ≡ k = omega arith in
-          ap (λ (m : ℕ). getD (xs ++ drop (length xs) old) m 0) (sym d) ∙ getD-append-add xs (drop (length xs) old) (k - length xs) 0
+          ap₂ (λ (x : List ℕ) (m : ℕ). getD x m 0) (written-first xs old) (sym d) ∙ getD-append-add xs (drop (length xs) old) (k - length xs) 0
           ∙ getD-drop (length xs) old (k - length xs) 0 ∙ ap (λ (m : ℕ). getD old m 0) d;
       long = laid-length xs old h;
     }
 
 -- byte i of row k's slot, in the slots laid over a key store
 slot-at : (rows : List Row) (old : List ℕ) (k i : ℕ) → Fit rows → k < length rows → i < slotSize
-    → getD (laid (slotsOf rows) old) (slotSize * k + i) 0 ≡ getD (slotOf (getD rows k noRow .key)) i 0
-unfolding laid
+    → getD (written 0 (slotsOf rows) old) (slotSize * k + i) 0 ≡ getD (slotOf (getD rows k noRow .key)) i 0
 slot-at rows old k i f h l =
     let slot = slotOf (getD rows k noRow .key) in
     let z = slot-length (getD rows k noRow .key) (f k h) in
     let s = slots-length rows f in
-    List·getD-append (slotsOf rows) (drop (length (slotsOf rows)) old) 0 (slotSize * k + i) (omega arith)
+    ap (λ (x : List ℕ). getD x (slotSize * k + i) 0) (written-first (slotsOf rows) old)
+    ∙ List·getD-append (slotsOf rows) (drop (length (slotsOf rows)) old) 0 (slotSize * k + i) (omega arith)
     ∙ sym (getD-drop (slotSize * k) (slotsOf rows) i 0) ∙ ap (λ (x : List ℕ). getD x i 0) (slots-at rows k f h)
     ∙ List·getD-append slot (drop (slotSize * suc k) (slotsOf rows)) 0 i (omega arith)
-
--- a slot's bytes: the key, and zeros after it
-slot-key : (key : List ℕ) (i : ℕ) → i < length key → getD (slotOf key) i 0 ≡ getD key i 0
-unfolding slotOf
-slot-key key i h = List·getD-append key (replicate (slotSize - length key) 0) 0 i h
-
-slot-zeros : (key : List ℕ) (i : ℕ) → length key ≤ i → i < slotSize → getD (slotOf key) i 0 ≡ 0
-unfolding slotOf
-slot-zeros key i h l =
-    let d : length key + (i - length key) ≡ i = omega arith in
-    ap (λ (m : ℕ). getD (key ++ replicate (slotSize - length key) 0) m 0) (sym d)
-    ∙ getD-append-add key (replicate (slotSize - length key) 0) (i - length key) 0
-    ∙ getD-replicate (slotSize - length key) (i - length key) 0 0 (omega arith)
 
 module _ (b : Book) (z : Sized b) (rows : List Row) (o : InOrder rows) (room : length rows ≤ length (b .ids)) where
   fit : Fit rows
@@ -68,14 +56,14 @@ module _ (b : Book) (z : Sized b) (rows : List Row) (o : InOrder rows) (room : l
         key-size = laid-at (λ (r : Row). length (r .key)) refl rows (b .lengths) k h;
         received = laid-at (λ (r : Row). r .received) refl rows (b .received) k h;
         sent = laid-at (λ (r : Row). r .sent) refl rows (b .sent) k h;
-        key = λ i l. slot-at rows (b .store) k i fit h (omega arith) ∙ slot-key key i l;
-        zeros = λ i l m. slot-at rows (b .store) k i fit h m ∙ slot-zeros key i l m;
+        key = λ i l. slot-at rows (b .store) k i fit h (omega arith) ∙ filled-in slotSize key t i l;
+        zeros = λ i l m. slot-at rows (b .store) k i fit h m ∙ filled-behind slotSize key t i l m;
       }
 
   rows-left : RowsLeft (length rows) b (loaded b rows)
   unfolding loaded
   rows-left =
-      let one : (f : Row → ℕ) (old : List ℕ) → length old ≡ length (b .ids) → LeftFrom (length rows) old (laid (map f rows) old) =
+      let one : (f : Row → ℕ) (old : List ℕ) → length old ≡ length (b .ids) → LeftFrom (length rows) old (written 0 (map f rows) old) =
       λ f old e. let m = length-map rows f in laid-left (map f rows) old (length rows) m (omega arith) in
       let s = slots-length rows fit in
       record {

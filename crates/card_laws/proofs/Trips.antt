@@ -12,24 +12,28 @@ use lib.Dec.{ltb}
 use lib.ListN.{length, getD, take, drop, replicate, length-append, length-drop, length-replicate, length-map, List·getD-append, List·getD-map}
 use lib.Seq.{drop-drop, drop-at, take-at, getD-drop}
 use Rattle.refusal.specs.declared.Refusal.the-variants.{UnsoundBook, NoRoomForRows}
+use Rattle.octets.specs.Bytes.{Bytes, written, filled}
+use Rattle.octets.specs.Numbers.{le}
+use Rattle.octets.proofs.Written.{length-written, written-first}
+use Rattle.octets.proofs.Elements.{bytes-append, bytes-take, bytes-drop, bytes-of}
+use Rattle.octets.proofs.LowFirst.{bytes-le}
 use Rattle.key_book.specs.Limits.{rowsMost, slotSize}
 use Rattle.key_book.specs.Book.{Book, Lent, Sized, sized, Sound, keyOf}
 use Rattle.key_book.specs.Laws.{Within}
 use Rattle.key_book.proofs.Says.{sized-says, sound-says, rows-within, key-says, key-is, key-depends}
-use Rattle.book_card.specs.Numbers.{le, Bytes}
-use Rattle.book_card.specs.Card.{lengthSize, kindSize, idSize, counterSize, countSize, rowKind, closeKind, Row, recordOf, rowRecord, rowRecords, close, cardOf, RowFits, noRow, InOrder}
-use Rattle.book_card.specs.Reader.{keyAt, closeSize, readCard}
-use Rattle.book_card.specs.Reading.{slotOf, slotsOf, laid, loaded, readAs, readOf, rowsIn, readBy, readBook}
+use Rattle.book_card.specs.Layout.{lengthSize, kindSize, idSize, counterSize, countSize, rowKind, closeKind, keyAt, closeSize}
+use Rattle.book_card.specs.Card.{Row, recordOf, rowRecord, rowRecords, close, cardOf, RowFits, noRow, InOrder}
+use Rattle.book_card.specs.Reader.{readCard}
+use Rattle.book_card.specs.Reading.{slotsOf, loaded, readAs, readOf, rowsIn, readBy, readBook}
 use Rattle.book_card.specs.Writing.{rowAt, rowsFrom, rowsOf, writeOf, roomAfter, roomBy}
 use Rattle.card_laws.specs.Laws.{fullRows, LargestCard, WriteThenRead, ReadThenWrite, SameRows, WriteDepends}
 use Rattle.book_card.specs.declared.ReadAnswer.the-variants.{Refused, Rows}
 use Rattle.book_card.specs.declared.WriteAnswer.{WriteAnswer}
 use Rattle.book_card.specs.declared.WriteAnswer.the-variants.{Refused as NotWritten, Size}
-use Rattle.book_card.proofs.Little.{bytes-append, bytes-le, bytes-take, bytes-drop}
 use Rattle.book_card.proofs.Shape.{row-size, close-size}
 use Rattle.book_card.proofs.Says.{After, in-order-after, after-in-order, card-says}
 use Rattle.book_card.proofs.Writes.{rows-length}
-use Rattle.book_card.proofs.Loads.{Fit, slot-length, slots-length}
+use Rattle.book_card.proofs.Slots.{slotOf, Fit, slot-length, slots-length, slots-cons}
 
 -- ---- the largest card
 
@@ -64,9 +68,8 @@ full-records id (suc n) =
     omega arith
 
 zeros-bytes : (n : ℕ) → Bytes (replicate n 0)
-zeros-bytes zero i = omega arith
-zeros-bytes (suc n) zero = omega arith
-zeros-bytes (suc n) (suc i) = zeros-bytes n i
+zeros-bytes zero = tt
+zeros-bytes (suc n) = (omega arith, zeros-bytes n)
 
 full-after : (id n : ℕ) → id + n ≤ 2 ^ 32 → After id (fullRows id n)
 unfolding fullRows After
@@ -111,7 +114,7 @@ module _ (b : Book) (l : Lent b) (s : Sound b) where
         sent-fits = l .sent-fits k;
         key-from = q .from-one;
         key-to = q .to-slot;
-        key-bytes = rw (key-is b k (rows-within b s k h) (s .keys-to k h)) (bytes-take (drop (slotSize * k) (b .store)) (bytes-drop (b .store) (l .byte-fits) (slotSize * k)) (getD (b .lengths) k 0));
+        key-bytes = rw (key-is b k (rows-within b s k h) (s .keys-to k h)) (bytes-take (getD (b .lengths) k 0) (drop (slotSize * k) (b .store)) (bytes-drop (slotSize * k) (b .store) (bytes-of (b .store) (l .byte-fits))));
       }
 
   rows-is : (k : ℕ) → k < b .rows → getD (rowsOf b) k noRow ≡ rowAt b k
@@ -149,7 +152,7 @@ row-bytes r h =
 
 records-bytes : (low : ℕ) (rows : List Row) → After low rows → Bytes (rowRecords rows)
 unfolding After rowRecords
-records-bytes low [] a = λ i. omega arith
+records-bytes low [] a = tt
 records-bytes low (r ∷ rows) a = bytes-append (rowRecord r) (rowRecords rows) (row-bytes r (a .1 .0 .key-bytes)) (records-bytes (suc (r .id)) rows (a .1 .1))
 
 pub card-bytes : (rows : List Row) → InOrder rows → Bytes (cardOf rows)
@@ -182,13 +185,13 @@ record Holds (c : Book) (k : ℕ) (rows : List Row) (i l s r n : List ℕ) : Typ
   pub sent : drop k (c .sent) ≡ map (λ (x : Row). x .sent) rows ++ n
 
 rows-held : (c : Book) (i l s r n : List ℕ) (rows : List Row) → Fit rows → (k : ℕ) → Holds c k rows i l s r n → rowsFrom c k (length rows) ≡ rows
-unfolding rowsFrom slotsOf slotOf
+unfolding rowsFrom filled
 rows-held c i l s r n [] f k h = refl
 rows-held c i l s r n (x ∷ rows) f k h =
     let t = f 0 (omega arith) in
     let slot = slotOf (x .key) in
     let z = slot-length (x .key) t in
-    let es : drop (slotSize * k) (c .store) ≡ slot ++ (slotsOf rows ++ s) = h .store ∙ append-assoc slot (slotsOf rows) s in
+    let es : drop (slotSize * k) (c .store) ≡ slot ++ (slotsOf rows ++ s) = h .store ∙ ap (λ (y : List ℕ). y ++ s) (slots-cons x rows) ∙ append-assoc slot (slotsOf rows) s in
     let a = ap length es ∙ length-append slot (slotsOf rows ++ s) in
     let d = length-drop (slotSize * k) (c .store) in
     let el = there-at (c .lengths) k _ _ (h .lengths) in
@@ -217,34 +220,39 @@ rows-held c i l s r n (x ∷ rows) f k h =
       sent = there-next (c .sent) k _ _ (h .sent);
     }))
 
-pub laid-length : (xs old : List ℕ) → length xs ≤ length old → length (laid xs old) ≡ length old
-unfolding laid
-laid-length xs old h = length-append xs (drop (length xs) old) ∙ ap (λ (n : ℕ). length xs + n) (length-drop (length xs) old) ∙ omega arith
+pub laid-length : (xs old : List ℕ) → length xs ≤ length old → length (written 0 xs old) ≡ length old
+laid-length xs old h = length-written 0 xs old (omega arith)
 
-pub laid-at : (f : Row → ℕ) → f noRow ≡ 0 → (rows : List Row) (old : List ℕ) (k : ℕ) → k < length rows → getD (laid (map f rows) old) k 0 ≡ f (getD rows k noRow)
-unfolding laid
+pub laid-at : (f : Row → ℕ) → f noRow ≡ 0 → (rows : List Row) (old : List ℕ) (k : ℕ) → k < length rows → getD (written 0 (map f rows) old) k 0 ≡ f (getD rows k noRow)
 laid-at f z rows old k h =
-    List·getD-append (map f rows) (drop (length (map f rows)) old) 0 k (rw (length-map rows f) h) ∙ ap (getD (map f rows) k) (sym z) ∙ List·getD-map f rows k noRow
+    ap (λ (l : List ℕ). getD l k 0) (written-first (map f rows) old)
+    ∙ List·getD-append (map f rows) (drop (length (map f rows)) old) 0 k (rw (length-map rows f) h) ∙ ap (getD (map f rows) k) (sym z) ∙ List·getD-map f rows k noRow
 
 module _ (b : Book) (z : Sized b) (rows : List Row) (o : InOrder rows) (room : length rows ≤ length (b .ids)) where
   keys-to : Fit rows
   keys-to k h = o .fit k h .key-to
 
   pub loaded-rows : rowsOf (loaded b rows) ≡ rows
-  unfolding rowsOf loaded laid
-  loaded-rows = rows-held (loaded b rows) _ _ _ _ _ rows keys-to 0 (record { ids = refl; lengths = refl; store = refl; received = refl; sent = refl })
+  unfolding rowsOf loaded
+  loaded-rows = rows-held (loaded b rows) _ _ _ _ _ rows keys-to 0 (record {
+    ids = written-first _ _;
+    lengths = written-first _ _;
+    store = written-first _ _;
+    received = written-first _ _;
+    sent = written-first _ _;
+  })
 
   pub loaded-sound : Sound (loaded b rows)
   unfolding loaded
   loaded-sound =
       let f = o .few in
-      let one : (g : Row → ℕ) (old : List ℕ) → length old ≡ length (b .ids) → length (laid (map g rows) old) ≡ length (b .ids) =
+      let one : (g : Row → ℕ) (old : List ℕ) → length old ≡ length (b .ids) → length (written 0 (map g rows) old) ≡ length (b .ids) =
       λ g old e. laid-length (map g rows) old (rw (length-map rows g) (omega arith)) ∙ e in
       let i = one (λ (r : Row). r .id) (b .ids) refl in
       let s = slots-length rows keys-to in
       let st = laid-length (slotsOf rows) (b .store) (omega (arith, z .store-agrees)) in
-      let a : (k : ℕ) → k < length rows → getD (laid (map (λ (r : Row). r .id) rows) (b .ids)) k 0 ≡ getD rows k noRow .id = laid-at (λ (r : Row). r .id) refl rows (b .ids) in
-      let c : (k : ℕ) → k < length rows → getD (laid (map (λ (r : Row). length (r .key)) rows) (b .lengths)) k 0 ≡ length (getD rows k noRow .key) = laid-at (λ (r : Row). length (r .key)) refl rows (b .lengths) in
+      let a : (k : ℕ) → k < length rows → getD (written 0 (map (λ (r : Row). r .id) rows) (b .ids)) k 0 ≡ getD rows k noRow .id = laid-at (λ (r : Row). r .id) refl rows (b .ids) in
+      let c : (k : ℕ) → k < length rows → getD (written 0 (map (λ (r : Row). length (r .key)) rows) (b .lengths)) k 0 ≡ length (getD rows k noRow .key) = laid-at (λ (r : Row). length (r .key)) refl rows (b .lengths) in
       record {
         sizes = record {
           room = omega (arith, z .room);
