@@ -1,13 +1,9 @@
--- What the stages need of the crates below: when two MACs are the same bytes, a MAC's size, and the form of a message by what it says.
+-- What the stages need of the crates below: a MAC's size, and how a message's form, what it says and the secret that it names hang together.
 use mathlib.Core.Path.{_≡_, refl, sym, ap, _∙_}
-use mathlib.Core.Logic.{_≢_}
-use mathlib.Core.Bool.{Bool, true, false, _&&_}
-use mathlib.Core.List.{List, [], _∷_}
-use mathlib.Core.Option.{some, Option·none-ne-some}
+use mathlib.Core.List.{List}
+use mathlib.Core.Option.{some, Option·none-ne-some, Option·some-injective}
 use Prim.Native.Nat.{ℕ}
 use native.Mathlib.Omega.{arith}
-use borrow.Author.Tests.{eqb-true, eq-eqb}
-use lib.Dec.{eqb}
 use lib.ListN.{length}
 use Rattle.md5.specs.Message.{md5, output}
 use Rattle.hmac_md5.specs.Hmac.{hmac}
@@ -17,39 +13,9 @@ use Rattle.dhcp_message.specs.declared.Auth.{Auth}
 use Rattle.dhcp_message.specs.declared.Form.{Form}
 use Rattle.dhcp_message.specs.declared.Form.the-variants.{Refused as FormRefused, Full}
 use Rattle.dhcp_message.proofs.Seals.{form-says}
-use Rattle.delayed_auth.specs.Check.{sameBytes}
 
 pub never : {X : Type 0} → _≡_ {A = ℕ} 0 1 → X
 never e = absurd (omega arith)
-
--- ---- bytes
-
--- `sameBytes` is true exactly where the lists are equal
-pub same-equal : (xs ys : List ℕ) → sameBytes xs ys ≡ true → xs ≡ ys
-unfolding sameBytes
-same-equal [] [] e = refl
-same-equal [] (y ∷ ys) e = never cc
-same-equal (x ∷ xs) [] e = never cc
-same-equal (x ∷ xs) (y ∷ ys) e = on (λ f. same-equal xs ys f) (eqb x y) refl e
-  where
-    on : (sameBytes xs ys ≡ true → xs ≡ ys) → (t : Bool) → eqb x y ≡ t → (t && sameBytes xs ys) ≡ true → x ∷ xs ≡ y ∷ ys
-    on more true f e = let h = eqb-true x y f in let t = more e in cc
-    on more false f e = never cc
-
-same-itself : (xs : List ℕ) → sameBytes xs xs ≡ true
-unfolding sameBytes
-same-itself [] = refl
-same-itself (x ∷ xs) = rw (eq-eqb x x refl) (same-itself xs)
-
-pub equal-same : (xs ys : List ℕ) → xs ≡ ys → sameBytes xs ys ≡ true
-equal-same xs ys e = rw (← e) (same-itself xs)
-
-pub differ-same : (xs ys : List ℕ) → xs ≢ ys → sameBytes xs ys ≡ false
-differ-same xs ys h = on (sameBytes xs ys) refl
-  where
-    on : (t : Bool) → sameBytes xs ys ≡ t → t ≡ false
-    on true e = absurd (h (same-equal xs ys e))
-    on false e = refl
 
 -- a MAC has 16 bytes
 pub hmac-size : (key text : List ℕ) → length (hmac key text) ≡ macSize
@@ -86,3 +52,12 @@ named-full m id e = by (formOf m) refl (sym e ∙ form-says .name m)
     by : (f : Form) → formOf m ≡ f → some id ≡ formNames f → (a : Auth) × (formOf m ≡ Full a)
     by (FormRefused r) g h = absurd (Option·none-ne-some id (sym h))
     by (Full a) g h = (a, g)
+
+pub named-says : (m : List ℕ) (id : ℕ) → named m ≡ some id → (c : ℕ) × (mac : List ℕ) × (saidOf m ≡ says c id mac)
+named-says m id e = by (saidOf m) refl
+  where
+    by : (x : Said) → saidOf m ≡ x → (c : ℕ) × (mac : List ℕ) × (saidOf m ≡ says c id mac)
+    by (refused r) f = absurd (Option·none-ne-some id (sym (form-says .name m ∙ ap formNames (said-form m (refused r) f)) ∙ e))
+    by (says c j mac) f =
+        let same : j ≡ id = Option·some-injective _ _ (sym (said-form m (says c j mac) f .name) ∙ e) in
+        (c, mac, f ∙ ap (λ (x : ℕ). says c x mac) same)

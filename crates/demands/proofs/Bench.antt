@@ -6,6 +6,7 @@ use mathlib.Core.Logic.{_≢_, _↔_}
 use mathlib.Core.Bool.{true}
 use mathlib.Core.List.{List}
 use mathlib.Core.Option.{none, some}
+use Rattle.octets.specs.Numbers.{bigAt}
 use Rattle.dhcp_message.specs.Bench.{someMac}
 use Rattle.dhcp_message.specs.Options.{decodeAt}
 use Rattle.dhcp_message.specs.Message.{checkedOf, checkedTokens}
@@ -20,8 +21,8 @@ use Rattle.card_laws.specs.Examples.{bookB}
 use Rattle.card_laws.proofs.Computed.{example-1, example-2}
 use Rattle.demands.specs.Bench.{wrongMac, BenchTable}
 use Rattle.demands.proofs.Below.{said-form}
-use Rattle.demands.proofs.Stages.{CheckCase, check-unsound, check-refused, check-unknown, check-replay, check-wrong, check-accepts}
-use Rattle.demands.proofs.Stages.{check-case, case-check}
+use Rattle.demands.proofs.Stages.{CheckEnd, check-unsound, check-refused, check-unknown, check-replay, check-wrong, check-accepts}
+use Rattle.demands.proofs.Stages.{check-end, end-check}
 
 b-sound : sound bookB ≡ true
 unfolding sound sized ascending keySizes allBelow
@@ -39,7 +40,7 @@ full-form m c id mac n number e l d =
     let f : formNumber (formOf m) ≡ 0 = ap formNumber (said-form m (says c id mac) e .form) in
     (λ g. absurd (d g), λ g. absurd (omega arith))
 
-by-form : (m : List ℕ) (n : ℕ) → 2 ≤ n → n ≤ 9 → (v : Verdict) → CheckCase bookB m v → (verdictNumber v ≡ n) ↔ (formNumber (formOf m) ≡ n)
+by-form : (m : List ℕ) (n : ℕ) → 2 ≤ n → n ≤ 9 → (v : Verdict) → CheckEnd bookB m v → (verdictNumber v ≡ n) ↔ (formNumber (formOf m) ≡ n)
 by-form m n l h v (check-unsound w) = absurd (w good)
 by-form m n l h v (check-refused {r} s e) = let f = ap formNumber (said-form m (refused r) e) in (λ g. f ∙ g, λ g. sym f ∙ g)
 by-form m n l h v (check-unknown c id mac s e f) = full-form m c id mac n 10 e l (λ g. omega arith)
@@ -50,11 +51,11 @@ by-form m n l h v (check-accepts {k} {c} s a) = full-form m c (a .id) (a .mac) n
 -- ---- example 8
 
 says-8 : saidOf (wrongMac 11 8) ≡ says 11 8 someMac
-unfolding saidOf saidBy checkedOf checkedTokens decodeAt
+unfolding saidOf saidBy checkedOf checkedTokens decodeAt bigAt
 says-8 = refl
 
 says-7 : saidOf (wrongMac 10 7) ≡ says 10 7 someMac
-unfolding saidOf saidBy checkedOf checkedTokens decodeAt
+unfolding saidOf saidBy checkedOf checkedTokens decodeAt bigAt
 says-7 = refl
 
 row-8 : rowOf bookB 8 ≡ none
@@ -67,7 +68,7 @@ row-7 = refl
 
 number-8 : verdictNumber (checkOf bookB (wrongMac 10 7)) ≡ 11
 number-8 =
-    ap verdictNumber (case-check bookB (wrongMac 10 7) _
+    ap verdictNumber (end-check bookB (wrongMac 10 7) _
     (check-replay 10 0 someMac good (record { id = 7; form = says-7; secret = row-7 }) (omega arith)))
 
 pub bench-table : BenchTable
@@ -75,8 +76,8 @@ bench-table = record {
   example-1 = example-1;
   example-2 = example-2;
   examples-3-to-7 = bench-examples;
-  on-book-B = λ m n l h. by-form m n l h (checkOf bookB m) (check-case bookB m);
-  example-8-id = ap verdictNumber (case-check bookB (wrongMac 11 8) _ (check-unknown 11 8 someMac good says-8 row-8));
+  on-book-B = λ m n l h. by-form m n l h (checkOf bookB m) (check-end bookB m);
+  example-8-id = ap verdictNumber (end-check bookB (wrongMac 11 8) _ (check-unknown 11 8 someMac good says-8 row-8));
   example-8-counter = number-8;
   example-10 = example-10;
 }

@@ -21,21 +21,16 @@ use Rattle.key_book.proofs.Says.{row-says, rows-within, key-is}
 use Rattle.demands.specs.Accepts.{Names, Seals}
 use Rattle.demands.specs.Demand2.{Demand2}
 use Rattle.demands.proofs.Below.{hmac-size}
-use Rattle.demands.proofs.Stages.{check-accepts, case-check, accepted-accepts, key-names, case-key, keyed-names}
-use Rattle.demands.proofs.Stages.{SealedBy, seal-seals, case-seal, sealed-by}
+use Rattle.demands.proofs.Stages.{check-accepts, end-check, accepted-accepts, key-names, end-key, keyed-names}
+use Rattle.demands.proofs.Stages.{SealedBy, seal-seals, end-seal, sealed-by}
 
 -- ---- the image of a sealed message
 
 module _ (m : List ℕ) (a : Auth) (form : formOf m ≡ Full a) (c id : ℕ) where
-  -- whatever stands in the MAC's place
-  image-any : (x y : List ℕ) → length x ≡ macSize → length y ≡ macSize
-      → imageOf (sealedWith a (fields c id ++ x) m) ≡ imageOf (sealedWith a (fields c id ++ y) m)
-  image-any x y h g = seal-laws .seals m a (fields c id ++ x) form (omega arith) .image (fields c id ++ y) (omega arith) refl
-
   -- it says the counter, the id and the MAC that were written
   says-written : (x : List ℕ) → length x ≡ macSize → c < 2 ^ 64 → id < 2 ^ 32 → saidOf (sealedWith a (fields c id ++ x) m) ≡ says c id x
   says-written x h l g =
-      seal-laws .seals m a (fields c id ++ x) form (omega arith) .said
+      seal-laws .seals m a (fields c id ++ x) form (seal-laws .seal-size c id x h) .said
       ∙ rw (seal-laws .counter-read c id x l, seal-laws .id-read c id x g, seal-laws .mac-read c id x)
 
 -- ---- what is sealed
@@ -53,7 +48,7 @@ module _ (b : Book) (lent : Lent b) (id : ℕ) (m : List ℕ) (k c : ℕ) (n : L
         left = let u = w .unspent in omega (arith, lent .sent-fits k);
         next = w .next;
         bytes = w .message;
-        right = ap (hmac (keyOf b k)) (image-any m a (w .form) c id (zeros macSize) mac refl (hmac-size _ _) ∙ ap imageOf (sym (w .message)));
+        right = ap (hmac (keyOf b k)) (seal-laws .any-mac m a c id (zeros macSize) mac (w .form) refl (hmac-size _ _) ∙ ap imageOf (sym (w .message)));
       }
 
   seals-by : Seals b id m k c n → SealedBy b id m k c n
@@ -68,7 +63,7 @@ module _ (b : Book) (lent : Lent b) (id : ℕ) (m : List ℕ) (k c : ℕ) (n : L
         next = w .next;
         message = w .bytes
             ∙ ap (λ (x : List ℕ). sealedWith a (fields c id ++ x) m)
-            (w .right ∙ ap (hmac (keyOf b k)) (ap imageOf (w .bytes) ∙ image-any m a (w .form) c id (w .mac) (zeros macSize) size refl));
+            (w .right ∙ ap (hmac (keyOf b k)) (ap imageOf (w .bytes) ∙ seal-laws .any-mac m a c id (w .mac) (zeros macSize) (w .form) size refl));
       }
 
 -- the key of a named row is the part of its slot
@@ -79,16 +74,16 @@ key-there b s m k w =
 
 pub demand-2 : Demand2
 demand-2 = record {
-  accepted = λ b s m k c. (accepted-accepts b m k c, λ a. case-check b m _ (check-accepts s a));
-  stored = λ b s m k c a. rw (case-check b m _ (check-accepts s a));
-  keyed = λ b s m k. (keyed-names b m k, λ w. case-key b m _ (key-names s w));
-  key-content = λ b s m k w. rw (case-key b m _ (key-names s w)) (key-there b s m k w);
-  key-place = λ b s m k w. rw (case-key b m _ (key-names s w));
+  accepted = λ b s m k c. (accepted-accepts b m k c, λ a. end-check b m _ (check-accepts s a));
+  stored = λ b s m k c a. rw (end-check b m _ (check-accepts s a));
+  keyed = λ b s m k. (keyed-names b m k, λ w. end-key b m _ (key-names s w));
+  key-content = λ b s m k w. rw (end-key b m _ (key-names s w)) (key-there b s m k w);
+  key-place = λ b s m k w. rw (end-key b m _ (key-names s w));
   sealed-when = λ b s l id m k c n. (
     λ e. by-seals b l id m k c n (sealed-by b id m k c n e),
-    λ w. case-seal b id m _ (seal-seals s (seals-by b l id m k c n w)),
+    λ w. end-seal b id m _ (seal-seals s (seals-by b l id m k c n w)),
   );
-  sent = λ b s l id m k c n w. rw (case-seal b id m _ (seal-seals s (seals-by b l id m k c n w)));
+  sent = λ b s l id m k c n w. rw (end-seal b id m _ (seal-seals s (seals-by b l id m k c n w)));
   passes = λ b d s l t id g m k c n e j r q u.
       let w = by-seals b l id m k c n (sealed-by b id m k c n e) in
       let size : length (w .mac) ≡ macSize = ap length (w .right) ∙ hmac-size _ _ in

@@ -14,6 +14,7 @@ use Rattle.refusal.specs.Number.{numberOf, done}
 use Rattle.refusal.specs.Lowest.{NothingBelow, Lowest}
 use Rattle.refusal.specs.declared.Refusal.the-variants.{UnsoundBook, MalformedCard, NoRoomForCard, NoRoomForRows}
 use Rattle.refusal.proofs.Lowest.{nothing-first, nothing-below-any, lowest}
+use Rattle.octets.specs.Bytes.{Bytes}
 use Rattle.key_book.specs.Book.{Book, Sized, Sound, sized, sound}
 use Rattle.key_book.proofs.Says.{sized-says, sound-says}
 use Rattle.book_card.specs.declared.ReadAnswer.{ReadAnswer}
@@ -21,7 +22,6 @@ use Rattle.book_card.specs.declared.ReadAnswer.the-variants.{Refused as ReadRef
 use Rattle.book_card.specs.declared.WriteAnswer.{WriteAnswer}
 use Rattle.book_card.specs.declared.WriteAnswer.the-variants.{Refused as WriteRefused, Size}
 use Rattle.book_card.specs.Card.{Row, InOrder, cardOf}
-use Rattle.book_card.specs.Numbers.{Bytes as CardBytes}
 use Rattle.book_card.specs.Reader.{readCard}
 use Rattle.book_card.specs.Reading.{readAs, readOf, readBy, readBook, readNumber}
 use Rattle.book_card.specs.Writing.{rowsOf, writeOf, roomBy, roomAfter, writeNumber}
@@ -31,7 +31,7 @@ use Rattle.demands.proofs.Below.{never}
 
 -- ---- reading
 
-module _ (b : Book) (card : List ℕ) (bytes : CardBytes card) where
+module _ (b : Book) (card : List ℕ) (bytes : Bytes card) where
   -- what lies below a number, where the sizes agree
   read-below : (n : ℕ) → Sized b → (numberOf MalformedCard < n → ((rows : List Row) → InOrder rows → card ≡ cardOf rows → ⊥) → ⊥)
       → (numberOf NoRoomForRows < n → (rows : List Row) → InOrder rows → card ≡ cardOf rows → length (b .ids) < length rows → ⊥)

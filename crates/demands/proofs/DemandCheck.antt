@@ -29,8 +29,8 @@ use Rattle.delayed_auth.specs.Key.{keyedOf, keyNumber, keyBytes, keyOffset}
 use Rattle.demands.specs.Accepts.{Names}
 use Rattle.demands.specs.Demand1.{Claims, KeyApplies, not-sound, by-form, no-row, CheckApplies, by-key, not-above, differs}
 use Rattle.demands.proofs.Below.{said-form, named-full}
-use Rattle.demands.proofs.Stages.{CheckCase, check-unsound, check-refused, check-unknown, check-replay, check-wrong, check-accepts, check-case}
-use Rattle.demands.proofs.Stages.{KeyCase, key-unsound, key-refused, key-unknown, key-names, key-case}
+use Rattle.demands.proofs.Stages.{CheckEnd, check-unsound, check-refused, check-unknown, check-replay, check-wrong, check-accepts, check-end}
+use Rattle.demands.proofs.Stages.{KeyEnd, key-unsound, key-refused, key-unknown, key-names, key-end}
 
 -- ---- what lies below a number, on a sound book
 
@@ -110,13 +110,13 @@ module _ (b : Book) (m : List ℕ) (bytes : Bytes m) (s : Sound b) where
 -- ---- at each end
 
 module _ (b : Book) (m : List ℕ) (bytes : Bytes m) where
-  key-lowest : (v : Keyed) → KeyCase b m v → Lowest (KeyApplies b m) (keyNumber v)
+  key-lowest : (v : Keyed) → KeyEnd b m v → Lowest (KeyApplies b m) (keyNumber v)
   key-lowest v (key-unsound h) = lowest (KeyApplies b m) (some UnsoundBook) (KeyApplies.not-sound h, nothing-first (KeyApplies b m))
   key-lowest v (key-refused {r} s e) = let w = key-form b m bytes s r e in lowest (KeyApplies b m) (some r) (w .0, w .1)
   key-lowest v (key-unknown id s e f) = lowest (KeyApplies b m) (some UnknownSecret) (key-unnamed b m bytes s id e f)
   key-lowest v (key-names {k} s w) = lowest (KeyApplies b m) none (nothing-below-any (KeyApplies b m) (key-none b m bytes s k w))
 
-  check-lowest : (v : Verdict) → CheckCase b m v → Lowest (CheckApplies b m) (verdictNumber v)
+  check-lowest : (v : Verdict) → CheckEnd b m v → Lowest (CheckApplies b m) (verdictNumber v)
   check-lowest v (check-unsound h) =
       lowest (CheckApplies b m) (some UnsoundBook) (by-key (KeyApplies.not-sound h), nothing-first (CheckApplies b m))
   check-lowest v (check-refused {r} s e) = let w = key-form b m bytes s r e in by-key-lowest b m bytes s r (omega arith) (w .0, w .1)
@@ -136,10 +136,10 @@ module _ (b : Book) (m : List ℕ) (bytes : Bytes m) where
       (λ l. above-all b m bytes s c k (a .mac) w (a .above)) (λ l. right-all b m bytes s c k (a .mac) w (a .right))))
 
 pub check-number : (b : Book) (m : List ℕ) → Bytes m → Lowest (CheckApplies b m) (verdictNumber (checkOf b m))
-check-number b m bytes = check-lowest b m bytes (checkOf b m) (check-case b m)
+check-number b m bytes = check-lowest b m bytes (checkOf b m) (check-end b m)
 
 pub key-number : (b : Book) (m : List ℕ) → Bytes m → Lowest (KeyApplies b m) (keyNumber (keyedOf b m))
-key-number b m bytes = key-lowest b m bytes (keyedOf b m) (key-case b m)
+key-number b m bytes = key-lowest b m bytes (keyedOf b m) (key-end b m)
 
 -- ---- what a refusal leaves
 

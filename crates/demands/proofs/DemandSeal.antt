@@ -21,7 +21,7 @@ use Rattle.key_book.specs.Laws.{NoRow}
 use Rattle.key_book.proofs.Says.{row-says}
 use Rattle.delayed_auth.specs.Seal.{Outcome, sealed, unsealed, counterMost, sealOf, messageAfter, sentAfter, outcomeNumber}
 use Rattle.demands.specs.Demand1.{SealApplies, not-sound, by-form, no-row, spent}
-use Rattle.demands.proofs.Stages.{SealCase, seal-unsound, seal-refused, seal-unknown, seal-spent, seal-seals, seal-case}
+use Rattle.demands.proofs.Stages.{SealEnd, seal-unsound, seal-refused, seal-unknown, seal-spent, seal-seals, seal-end}
 
 module _ (b : Book) (id : ℕ) (m : List ℕ) where
   -- what lies below a number, on a sound book
@@ -40,7 +40,7 @@ module _ (b : Book) (id : ℕ) (m : List ℕ) where
         seal-below n s (λ q l. lowest-given .full m bytes .0 (a, e) q) (λ l g. Option·none-ne-some k (sym (row-says .no-row b id .1 g) ∙ f))
         (λ l j g i. h l (ap (λ (x : ℕ). getD (b .sent) x 0) (Option·some-injective _ _ (sym f ∙ g)) ∙ i))
 
-    seal-lowest : (o : Outcome) → SealCase b id m o → Lowest (SealApplies b id m) (outcomeNumber o)
+    seal-lowest : (o : Outcome) → SealEnd b id m o → Lowest (SealApplies b id m) (outcomeNumber o)
     seal-lowest o (seal-unsound h) = lowest (SealApplies b id m) (some UnsoundBook) (SealApplies.not-sound h, nothing-first (SealApplies b id m))
     seal-lowest o (seal-refused {r} s e) =
         let w = lowest-given .refused m bytes r .0 e in
@@ -59,7 +59,7 @@ module _ (b : Book) (id : ℕ) (m : List ℕ) where
         (nothing-below-any (SealApplies b id m) (λ n. row-below n (w .auth) k s (w .form) (w .secret) (λ l. w .unspent)))
 
     pub seal-number : Lowest (SealApplies b id m) (outcomeNumber (sealOf b id m))
-    seal-number = seal-lowest (sealOf b id m) (seal-case b id m)
+    seal-number = seal-lowest (sealOf b id m) (seal-end b id m)
 
 -- what a refusal leaves
 pub seal-keeps : (o : Outcome) (m sent : List ℕ) → outcomeNumber o ≢ done → (messageAfter o m ≡ m) × (sentAfter o sent ≡ sent)

@@ -27,9 +27,9 @@ use Rattle.demands.specs.Accepts.{Names}
 use Rattle.demands.specs.Dependence.{SameSecrets, SameForCheck, SameForSeal, SameInUse, Dependence}
 use Rattle.demands.specs.Demand1.{Claims}
 use Rattle.demands.proofs.Below.{never, hmac-size, said-form}
-use Rattle.demands.proofs.Stages.{CheckCase, check-unsound, check-refused, check-unknown, check-replay, check-wrong, check-accepts}
-use Rattle.demands.proofs.Stages.{check-case, case-check, KeyCase, key-unsound, key-refused, key-unknown, key-names, key-case, case-key}
-use Rattle.demands.proofs.Stages.{SealCase, seal-unsound, seal-refused, seal-unknown, seal-spent, seal-seals, seal-case, case-seal}
+use Rattle.demands.proofs.Stages.{CheckEnd, check-unsound, check-refused, check-unknown, check-replay, check-wrong, check-accepts}
+use Rattle.demands.proofs.Stages.{check-end, end-check, KeyEnd, key-unsound, key-refused, key-unknown, key-names, key-end, end-key}
+use Rattle.demands.proofs.Stages.{SealEnd, seal-unsound, seal-refused, seal-unknown, seal-spent, seal-seals, seal-end, end-seal}
 
 -- ---- two books with the same soundness and ids
 
@@ -47,7 +47,7 @@ module _ (a b : Book) (w : SameSecrets a b) where
 
 -- the message may be another one too that says the same and has the same image
 pub check-same : (a b : Book) (m n : List ℕ) → SameForCheck a b m → saidOf n ≡ saidOf m → imageOf n ≡ imageOf m → checkOf b n ≡ checkOf a m
-check-same a b m n w said image = case-check b n (checkOf a m) (same (checkOf a m) (check-case a m))
+check-same a b m n w said image = end-check b n (checkOf a m) (same (checkOf a m) (check-end a m))
   where
     names : {c k : ℕ} {mac : List ℕ} → Claims a m c k mac → Names a m k
     names {c} {k} {mac} x = record { id = x .id; form = said-form m (says c (x .id) mac) (x .form) .name; secret = x .secret }
@@ -58,7 +58,7 @@ check-same a b m n w said image = case-check b n (checkOf a m) (same (checkOf a 
     good : Sound a → Sound b
     good = sound-too a b (w .secrets)
 
-    same : (v : Verdict) → CheckCase a m v → CheckCase b n v
+    same : (v : Verdict) → CheckEnd a m v → CheckEnd b n v
     same v (check-unsound h) = check-unsound (unsound-too a b (w .secrets) h)
     same v (check-refused s e) = check-refused (good s) (said ∙ e)
     same v (check-unknown c id mac s e f) = check-unknown c id mac (good s) (said ∙ e) (row-too a b (w .secrets) id none f)
@@ -82,9 +82,9 @@ module _ (a b : Book) (m : List ℕ) where
 
   module _ (w : SameSecrets a b) where
     pub keyed-depends : keyedOf a m ≡ keyedOf b m
-    keyed-depends = sym (case-key b m (keyedOf a m) (same (keyedOf a m) (key-case a m)))
+    keyed-depends = sym (end-key b m (keyedOf a m) (same (keyedOf a m) (key-end a m)))
       where
-        same : (v : Keyed) → KeyCase a m v → KeyCase b m v
+        same : (v : Keyed) → KeyEnd a m v → KeyEnd b m v
         same v (key-unsound h) = key-unsound (unsound-too a b w h)
         same v (key-refused s e) = key-refused (sound-too a b w s) e
         same v (key-unknown id s e f) = key-unknown id (sound-too a b w s) e (row-too a b w id none f)
@@ -92,9 +92,9 @@ module _ (a b : Book) (m : List ℕ) where
             key-names (sound-too a b w s) (record { id = n .id; form = n .form; secret = row-too a b w (n .id) (some k) (n .secret) })
 
     pub key-bytes-depend : ((k : ℕ) → Sound a → Names a m k → keyOf a k ≡ keyOf b k) → keyBytes a (keyedOf a m) ≡ keyBytes b (keyedOf b m)
-    key-bytes-depend same = on (keyedOf a m) (key-case a m) ∙ ap (keyBytes b) keyed-depends
+    key-bytes-depend same = on (keyedOf a m) (key-end a m) ∙ ap (keyBytes b) keyed-depends
       where
-        on : (v : Keyed) → KeyCase a m v → keyBytes a v ≡ keyBytes b v
+        on : (v : Keyed) → KeyEnd a m v → keyBytes a v ≡ keyBytes b v
         on (NoKey r) x = refl
         on (Row k) (key-names s n) = same k s n
 
@@ -102,9 +102,9 @@ module _ (a b : Book) (m : List ℕ) where
 
 module _ (a b : Book) (id : ℕ) (m : List ℕ) where
   pub seal-depends : SameForSeal a b id → sealOf a id m ≡ sealOf b id m
-  seal-depends w = sym (case-seal b id m (sealOf a id m) (same (sealOf a id m) (seal-case a id m)))
+  seal-depends w = sym (end-seal b id m (sealOf a id m) (same (sealOf a id m) (seal-end a id m)))
     where
-      same : (o : Outcome) → SealCase a id m o → SealCase b id m o
+      same : (o : Outcome) → SealEnd a id m o → SealEnd b id m o
       same o (seal-unsound h) = seal-unsound (unsound-too a b (w .secrets) h)
       same o (seal-refused s e) = seal-refused (sound-too a b (w .secrets) s) e
       same o (seal-unknown x s e f) = seal-unknown x (sound-too a b (w .secrets) s) e (row-too a b (w .secrets) id none f)
@@ -124,12 +124,12 @@ module _ (a b : Book) (id : ℕ) (m : List ℕ) where
 -- the message with other bytes in the places that a seal writes is sealed to the same bytes
 module _ (b : Book) (id : ℕ) (m : List ℕ) (a : Auth) (other : List ℕ) (form : formOf m ≡ Full a) (size : length other ≡ sealSize) where
   pub fields-depend : sealOf b id (sealedWith a other m) ≡ sealOf b id m
-  fields-depend = case-seal b id (sealedWith a other m) (sealOf b id m) (same (sealOf b id m) (seal-case b id m))
+  fields-depend = end-seal b id (sealedWith a other m) (sealOf b id m) (same (sealOf b id m) (seal-end b id m))
     where
       w : Sealed m a other
       w = seal-laws .seals m a other form size
 
-      same : (o : Outcome) → SealCase b id m o → SealCase b id (sealedWith a other m) o
+      same : (o : Outcome) → SealEnd b id m o → SealEnd b id (sealedWith a other m) o
       same o (seal-unsound h) = seal-unsound h
       same o (seal-refused s e) = never cc
       same o (seal-unknown x s e f) = seal-unknown _ s (w .form) f
@@ -145,7 +145,8 @@ module _ (b : Book) (id : ℕ) (m : List ℕ) (a : Auth) (other : List ℕ) (for
             unspent = x .unspent;
             next = x .next;
             message = rw auth at (x .message)
-                ∙ sym (rw (w .again (fields c id ++ zeros macSize) refl) (w .again new (omega (arith, hmac-size (keyOf b k) image))));
+                ∙ sym (rw (w .again (fields c id ++ zeros macSize) (seal-laws .seal-size c id (zeros macSize) refl))
+                (w .again new (seal-laws .seal-size c id (hmac (keyOf b k) image) (hmac-size (keyOf b k) image))));
           })
 
 -- ---- the rows in use

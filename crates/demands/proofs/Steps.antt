@@ -22,7 +22,7 @@ use Rattle.demands.specs.Dependence.{SameSecrets}
 use Rattle.demands.specs.Demand3.{Step, check, seal, bookAfter}
 use Rattle.demands.proofs.Below.{said-form}
 use Rattle.demands.proofs.Stages.{check-replay}
-use Rattle.demands.proofs.Stages.{case-check, accepted-accepts, sealed-by}
+use Rattle.demands.proofs.Stages.{end-check, accepted-accepts, sealed-by}
 use Rattle.demands.proofs.Demand2.{demand-2}
 use Rattle.demands.proofs.Dependence.{check-same, seal-depends}
 
@@ -152,7 +152,7 @@ pub replays : (b₀ a b : Book) (m : List ℕ) (k c : ℕ) → SameIds b₀ a �
 replays b₀ a b m k c v w e h =
     let x = accepted-accepts a m k c e in
     let row = row-kept b₀ b w (x .id) ∙ sym (row-kept b₀ a v (x .id)) ∙ x .secret in
-    case-check b m _ (check-replay c k (x .mac) (w .is-sound) (record { id = x .id; form = x .form; secret = row }) h)
+    end-check b m _ (check-replay c k (x .mac) (w .is-sound) (record { id = x .id; form = x .form; secret = row }) h)
 
 -- a message that demand 2 doesn't accept leaves the counters as they are
 pub not-accepted : (b : Book) (m : List ℕ) → Sound b → ((k c : ℕ) → Accepts b m k c → ⊥) → receivedAfter (checkOf b m) (b .received) ≡ b .received

@@ -15,7 +15,7 @@ use Rattle.delayed_auth.specs.declared.Verdict.the-variants.{Accepted, Refused}
 use Rattle.delayed_auth.specs.Check.{checkOf, receivedAfter, verdictNumber}
 use Rattle.delayed_auth.specs.Seal.{sealOf, sealingOf, sealingNumber, messageAfter, sentAfter}
 use Rattle.demands.specs.Demand3.{check, seal, Answer, checked, bookAfter, answers, ending}
-use Rattle.demands.proofs.Stages.{CheckCase, check-accepts, check-case}
+use Rattle.demands.proofs.Stages.{CheckEnd, check-accepts, check-end}
 use Rattle.demands.proofs.Demand3.{demand-3}
 use Rattle.worked_runs.specs.Calls.{again, answerNumber, bufferOf}
 
@@ -32,9 +32,9 @@ module _ (b : Book) (m : List ℕ) (id : ℕ) (n : List ℕ) where
       ap answerNumber same ∙ r .2
 
   pub replayed : verdictNumber (checkOf b m) ≡ done → verdictNumber last ≡ numberOf Replay
-  replayed e = on (checkOf b m) refl (check-case b m) e
+  replayed e = on (checkOf b m) refl (check-end b m) e
     where
-      on : (v : Verdict) → checkOf b m ≡ v → CheckCase b m v → verdictNumber v ≡ done → verdictNumber last ≡ numberOf Replay
+      on : (v : Verdict) → checkOf b m ≡ v → CheckEnd b m v → verdictNumber v ≡ done → verdictNumber last ≡ numberOf Replay
       on (Refused r) g w h = let p = numbers-tell .not-done r in absurd (omega (arith, h))
       on (Accepted k c) g (check-accepts s a) h = accepted-first k c s g
 

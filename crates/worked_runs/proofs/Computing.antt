@@ -1,6 +1,7 @@
 -- What the worked runs are computed with: `unfolding computing` opens every definition from a check and a seal down to MD5 and the bytes of a message.
 use Prim.Native.Nat.{ℕ}
 use Rattle.octets.specs.Bytes.{written}
+use Rattle.octets.specs.Numbers.{be, bigAt}
 use Rattle.md5.specs.Word.{rotl, auxiliary, wordNo, additive, rotations}
 use Rattle.md5.specs.Block.{stepWith, stepAt, steps, round, compress, wordAt, loadTo, load, blocks}
 use Rattle.md5.specs.Message.{md5, padded, padding, output}
@@ -10,11 +11,12 @@ use Rattle.dhcp_message.specs.Message.{checkedTokens, checkedOf}
 use Rattle.dhcp_message.specs.Said.{saidBy, saidOf, named, formOf}
 use Rattle.dhcp_message.specs.Image.{imageOf}
 use Rattle.key_book.specs.Book.{allBelow, sized, ascending, keySizes, sound, placeFrom, rowIn, keyFits, keyIn}
-use Rattle.delayed_auth.specs.Check.{sameBytes, judgedRow, judgedSaid, judgedSound, checkOf}
-use Rattle.delayed_auth.specs.Seal.{sealedMessage, sealedRow, sealedForm, sealedSound, sealOf}
+use Rattle.delayed_auth.specs.Admit.{admittedSaid, admittedForm}
+use Rattle.delayed_auth.specs.Check.{sameBytes, judgedRow, judgedSaid, checkOf}
+use Rattle.delayed_auth.specs.Seal.{planRow, planForm, planOf, sealedMessage, sealOf}
 
 unfoldable pub computing : ℕ
 unfolding rotl auxiliary wordNo additive rotations stepWith stepAt steps round compress wordAt loadTo load blocks md5 padded padding output masked hmac
-    written decodeAt checkedTokens checkedOf saidBy saidOf named formOf imageOf allBelow sized ascending keySizes sound placeFrom rowIn keyFits keyIn
-    sameBytes judgedRow judgedSaid judgedSound checkOf sealedMessage sealedRow sealedForm sealedSound sealOf
+    written be bigAt decodeAt checkedTokens checkedOf saidBy saidOf named formOf imageOf allBelow sized ascending keySizes sound placeFrom rowIn keyFits keyIn
+    admittedSaid admittedForm sameBytes judgedRow judgedSaid checkOf planRow planForm planOf sealedMessage sealOf
 computing = 0

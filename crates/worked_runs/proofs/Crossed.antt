@@ -19,7 +19,7 @@ use Rattle.demands.specs.Accepts.{Accepts}
 use Rattle.demands.specs.Demand3.{check, bookAt, Carried, same, relayed, Rearranged}
 use Rattle.demands.specs.History.{names-it, under-it, OnlyOthersDiffer}
 use Rattle.demands.proofs.Below.{never}
-use Rattle.demands.proofs.Stages.{check-accepts, case-check}
+use Rattle.demands.proofs.Stages.{check-accepts, end-check}
 use Rattle.demands.proofs.Runs.{never-falls}
 use Rattle.demands.proofs.ByRow.{walk}
 use Rattle.demands.proofs.Steps.{SameIds, row-kept}
@@ -94,7 +94,7 @@ unfolding computing
 wrong-mac = refl
 
 forged-refused : (k c : ℕ) → Accepts book forged k c → ⊥
-forged-refused k c a = let e = case-check book forged _ (check-accepts is-sound a) in never (cc wrong-mac)
+forged-refused k c a = let e = end-check book forged _ (check-accepts is-sound a) in never (cc wrong-mac)
 
 stale-says : saidOf stale ≡ says 10 idA someMac
 unfolding computing

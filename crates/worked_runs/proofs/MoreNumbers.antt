@@ -1,6 +1,6 @@
 -- specs/MoreNumbers.antt, computed.
 use mathlib.Core.Path.{refl}
-use Rattle.book_card.specs.Numbers.{le, value, numberAt}
+use Rattle.octets.specs.Numbers.{le, value, littleAt}
 use Rattle.book_card.specs.Card.{recordOf, rowRecord, close, rowRecords, cardOf}
 use Rattle.book_card.specs.Reader.{frontOf, frontFrom, rowsInFront, readCard}
 use Rattle.book_card.specs.Reading.{readOf}
@@ -9,5 +9,5 @@ use Rattle.worked_runs.specs.MoreNumbers.{MoreNumbers}
 use Rattle.worked_runs.proofs.Computing.{computing}
 
 pub more-numbers : MoreNumbers
-unfolding computing le value numberAt recordOf rowRecord close rowRecords cardOf frontOf frontFrom rowsInFront readCard readOf rowsFrom rowsOf writeOf
+unfolding computing le value littleAt recordOf rowRecord close rowRecords cardOf frontOf frontFrom rowsInFront readCard readOf rowsFrom rowsOf writeOf
 more-numbers = record { number-1 = refl; number-12 = refl; number-13 = refl; number-16 = refl; number-17 = refl }

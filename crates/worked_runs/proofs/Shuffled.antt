@@ -15,7 +15,7 @@ use Rattle.delayed_auth.specs.Check.{checkOf}
 use Rattle.demands.specs.Accepts.{Accepts}
 use Rattle.demands.specs.Demand3.{check, seal, bookAfter, Carried, same, relayed, Rearranged}
 use Rattle.demands.proofs.Below.{never}
-use Rattle.demands.proofs.Stages.{check-accepts, case-check}
+use Rattle.demands.proofs.Stages.{check-accepts, end-check}
 use Rattle.demands.proofs.Demand3.{demand-3}
 use Rattle.worked_runs.specs.Shuffled.{book, auth7, auth8, ended, relayInfo, sentMessage, relayedMessage, toSeal, forged, first, second, place, Shuffled}
 use Rattle.worked_runs.proofs.Computing.{computing}
@@ -67,7 +67,7 @@ unfolding computing after-seal
 wrong-mac = refl
 
 not-accepted : (k c : ℕ) → Accepts after-seal forged k c → ⊥
-not-accepted k c a = let e = case-check after-seal forged _ (check-accepts after-seal-sound a) in never (cc wrong-mac)
+not-accepted k c a = let e = end-check after-seal forged _ (check-accepts after-seal-sound a) in never (cc wrong-mac)
 
 -- ---- the second run
 
