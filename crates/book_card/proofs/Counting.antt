@@ -10,15 +10,16 @@ use borrow.Author.Tests.{eq-eqb, ne-eqb, lt-ltb, le-ltb}
 use lib.Dec.{ltb}
 use lib.ListN.{length, drop, length-drop}
 use lib.Seq.{drop-drop}
+use Rattle.octets.specs.Bytes.{Bytes}
+use Rattle.octets.proofs.Elements.{bytes-drop}
 use Rattle.key_book.specs.Limits.{rowsMost}
-use Rattle.book_card.specs.Numbers.{Bytes}
 use Rattle.book_card.specs.Card.{Row}
-use Rattle.book_card.specs.Reader.{keyAt, closeSize, frontOf, rowFront, CardEnd, closed, fault, FrontRows}
+use Rattle.book_card.specs.Layout.{keyAt, closeSize}
+use Rattle.book_card.specs.Reader.{frontOf, rowFront, CardEnd, closed, fault, FrontRows}
 use Rattle.book_card.specs.Reader.{ended, withRow, stepFrom, frontFrom, rowsInFront, rowsBy, cardIn, readCard, countedFrom}
 use Rattle.book_card.specs.declared.Front.{Front}
 use Rattle.book_card.specs.declared.Front.the-variants.{Broken, Row as RowFront, Close}
 use Rattle.book_card.specs.declared.Counted.the-variants.{Malformed, Rows as RowCount}
-use Rattle.book_card.proofs.Little.{bytes-drop}
 use Rattle.book_card.proofs.Shape.{GoodRow, FrontGood, front-good}
 use Rattle.book_card.proofs.Says.{goOn, front-step}
 
@@ -76,7 +77,7 @@ module _ (card : List ℕ) (at rows low : ℕ) (j : Counting card at rows low) w
     row-within b =
         let w = j .within in
         let d = length-drop at card in
-        let g : GoodRow rest id size = rw (sym e) at (front-good rest (bytes-drop card b at)) in
+        let g : GoodRow rest id size = rw (sym e) at (front-good rest (bytes-drop at card b)) in
         let k = g .long in
         omega arith
 
@@ -96,7 +97,7 @@ module _ (card : List ℕ) (at rows low : ℕ) (j : Counting card at rows low) w
       counting-turn l b =
           let w = row-within b in
           let f = j .few in
-          let g : GoodRow rest id size = rw (sym e) at (front-good rest (bytes-drop card b at)) in
+          let g : GoodRow rest id size = rw (sym e) at (front-good rest (bytes-drop at card b)) in
           let i = g .fits .id-fits in
           let n = g .named in
           let few : rows < rowsMost = omega arith in

@@ -1,7 +1,8 @@
-pub mod Little
-pub mod Loops
+pub mod Fronts
 pub mod Shape
 pub mod Says
 pub mod Counting
-pub mod Writes
+pub mod Slots
 pub mod Loads
+pub mod Fills
+pub mod Writes

@@ -4,7 +4,7 @@
 use mathlib.Core.Path.{_≡_, refl, sym, ap, ap₂, _∙_}
 use mathlib.Core.Bool.{Bool, true, false, cond}
 use mathlib.Core.Option.{Option, none, some}
-use mathlib.Core.List.{List, [], _∷_, _++_, append-assoc, append-nil}
+use mathlib.Core.List.{List, [], _∷_, _++_, append-nil}
 use Prim.Native.Nat.{ℕ, zero, suc, _+_, _-_, _^_, _≤_, _<_}
 use native.Mathlib.Nat.{add-zero}
 use native.Mathlib.Omega.{arith}
@@ -12,16 +12,18 @@ use borrow.Author.Tests.{eq-eqb, le-ltb, eqb-true, ltb-false}
 use lib.Dec.{ltb, eqb}
 use lib.ListN.{length, getD, take, drop, drop-of-length-le}
 use lib.Seq.{take-append-seam}
+use Rattle.octets.specs.Bytes.{Bytes}
+use Rattle.octets.proofs.Elements.{bytes-drop}
 use Rattle.key_book.specs.Limits.{rowsMost}
-use Rattle.book_card.specs.Numbers.{Bytes}
-use Rattle.book_card.specs.Card.{Row, countSize, rowRecord, rowRecords, close, cardOf, RowFits, noRow, InOrder}
-use Rattle.book_card.specs.Reader.{keyAt, closeSize, frontOf, rowFront, CardEnd, closed, fault, FrontRows}
+use Rattle.book_card.specs.Layout.{countSize, keyAt, closeSize}
+use Rattle.book_card.specs.Card.{Row, rowRecord, rowRecords, close, cardOf, RowFits, noRow, InOrder}
+use Rattle.book_card.specs.Reader.{frontOf, rowFront, CardEnd, closed, fault, FrontRows}
 use Rattle.book_card.specs.Reader.{ended, withRow, stepFrom, frontFrom, rowsInFront, rowsBy, cardIn, readCard}
 use Rattle.book_card.specs.Laws.{FrontSays, CardSays, MalformedSays}
 use Rattle.book_card.specs.declared.Front.{Front}
 use Rattle.book_card.specs.declared.Front.the-variants.{Broken, Row as RowFront, Close}
-use Rattle.book_card.proofs.Little.{bytes-drop}
-use Rattle.book_card.proofs.Shape.{row-read, front-of-row, row-of-front, front-of-close, close-size, GoodRow, GoodClose, FrontGood, front-good}
+use Rattle.book_card.proofs.Shape.{close-size, records-cons, records-none, card-is, row-read, front-of-row, row-of-front, front-of-close}
+use Rattle.book_card.proofs.Shape.{GoodRow, GoodClose, FrontGood, front-good}
 
 -- rows that fit, with ids that ascend strictly from `low` on
 unfoldable pub After : ℕ → List Row → Type 0
@@ -87,10 +89,10 @@ lowAfter low (r ∷ rows) = lowAfter (suc (r .id)) rows
 -- rows in order whose records stand in front are read, and reading goes on behind them
 reads : (rows : List Row) (left low n : ℕ) (t : List ℕ) → After low rows → length rows ≤ left
     → frontFrom left low n (rowRecords rows ++ t) ≡ ahead rows (frontFrom (left - length rows) (lowAfter low rows) (n + length rows) t)
-unfolding After rowRecords goOn lowAfter
+unfolding After goOn lowAfter
 reads [] left low n t a l =
     let z : left ≡ left - 0 = omega arith in
-    ap₂ (λ (x y : ℕ). frontFrom x low y t) z (sym (add-zero n))
+    ap (frontFrom left low n) (records-none t) ∙ ap₂ (λ (x y : ℕ). frontFrom x low y t) z (sym (add-zero n))
 reads (r ∷ rows) zero low n t a l = absurd (omega arith)
 reads (r ∷ rows) (suc left) low n t a l =
     let u = rowRecords rows ++ t in
@@ -99,7 +101,7 @@ reads (r ∷ rows) (suc left) low n t a l =
     let size = length (r .key) in
     let e : suc n + length rows ≡ n + suc (length rows) = omega arith in
     let d : left - length rows ≡ suc left - suc (length rows) = omega arith in
-    ap (frontFrom (suc left) low n) (append-assoc (rowRecord r) (rowRecords rows) t)
+    ap (frontFrom (suc left) low n) (records-cons r rows t)
     ∙ front-step (suc left) low n s ∙ ap (stepFrom (goOn (suc left) s) low n s) (front-of-row r u f)
     ∙ ap (λ (b : Bool). cond b (ended fault s) (withRow (rowFront s size) (frontFrom left (suc (r .id)) (suc n) (drop (keyAt + size) s))))
     (le-ltb (r .id) low (a .0))
@@ -114,13 +116,14 @@ reads-close left low n h =
 
 -- the rows of a card stand in front of it and end closed
 reads-card : (rows : List Row) → InOrder rows → rowsInFront (cardOf rows) ≡ record { rows = rows; ends = closed; rest = close (length rows) }
-unfolding rowsInFront cardOf
+unfolding rowsInFront
 reads-card rows o =
     let f = o .few in
     let z : 0 + length rows ≡ length rows = omega arith in
     let left = rowsMost - length rows in
     let low = lowAfter 0 rows in
-    reads rows rowsMost 0 0 (close (length rows)) (in-order-after rows o) f
+    ap (frontFrom rowsMost 0 0) (card-is rows)
+    ∙ reads rows rowsMost 0 0 (close (length rows)) (in-order-after rows o) f
     ∙ ap (λ (n : ℕ). ahead rows (frontFrom left low n (close (length rows)))) z ∙ ap (ahead rows) (reads-close left low (length rows) (omega arith))
     ∙ ap (λ (x : List Row). record { rows = x; ends = closed; rest = close (length rows) }) (append-nil rows)
 
@@ -132,23 +135,23 @@ record Good (left low n : ℕ) (s : List ℕ) (f : FrontRows) : Type 0 where
   pub closes : f .ends ≡ closed → f .rest ≡ close (n + length (f .rows))
 
 good-fault : (left low n : ℕ) (s : List ℕ) → Good left low n s (ended fault s)
-unfolding After rowRecords
-good-fault left low n s = record { ordered = tt; few = omega arith; bytes = refl; closes = λ e. absurd (let z : _≡_ {A = ℕ} 0 1 = cc in omega arith) }
+unfolding After
+good-fault left low n s = record { ordered = tt; few = omega arith; bytes = sym (records-none s); closes = λ e. absurd (let z : _≡_ {A = ℕ} 0 1 = cc in omega arith) }
 
 good-closed : (left low n m : ℕ) (s : List ℕ) → GoodClose s m → length s ≡ closeSize → m ≡ n → Good left low n s (ended closed s)
-unfolding After rowRecords
+unfolding After
 good-closed left low n m s g e q =
     let l : length s ≤ closeSize = omega arith in
     record {
       ordered = tt;
       few = omega arith;
-      bytes = refl;
+      bytes = sym (records-none s);
       closes = λ _. g .bytes ∙ ap₂ (λ (x : ℕ) (r : List ℕ). close x ++ r) q (drop-of-length-le s l) ∙ append-nil (close n) ∙ ap close (sym (add-zero n));
     }
 
 good-onto : (left low n id size : ℕ) (s : List ℕ) (f : FrontRows) → low ≤ id → GoodRow s id size → Good left (suc id) (suc n) (drop (keyAt + size) s) f
     → Good (suc left) low n s (withRow (rowFront s size) f)
-unfolding After rowRecords
+unfolding After
 good-onto left low n id size s f l g a =
     let r = rowFront s size in
     let t = a .few in
@@ -156,7 +159,7 @@ good-onto left low n id size s f l g a =
     record {
       ordered = (rw (g .named) l, (g .fits, rw (g .named) (a .ordered)));
       few = omega arith;
-      bytes = g .bytes ∙ ap (λ (x : List ℕ). rowRecord r ++ x) (a .bytes) ∙ sym (append-assoc (rowRecord r) (rowRecords (f .rows)) (f .rest));
+      bytes = g .bytes ∙ ap (λ (x : List ℕ). rowRecord r ++ x) (a .bytes) ∙ sym (records-cons r (f .rows) (f .rest));
       closes = λ c. a .closes c ∙ ap close e;
     }
 
@@ -184,11 +187,11 @@ good zero low n s h = rw (front-step zero low n s) (good-step zero low n s (λ i
 good (suc left) low n s h =
     rw (front-step (suc left) low n s)
     (good-step (suc left) low n s
-    (λ id size l g. good-onto left low n id size s _ l g (good left (suc id) (suc n) (drop (keyAt + size) s) (bytes-drop s h (keyAt + size))))
+    (λ id size l g. good-onto left low n id size s _ l g (good left (suc id) (suc n) (drop (keyAt + size) s) (bytes-drop (keyAt + size) s h)))
     (frontOf s) (front-good s h))
 
 pub front-says : FrontSays
-unfolding rowsInFront cardOf
+unfolding rowsInFront
 front-says s h =
     let f = rowsInFront s in
     let g = good rowsMost 0 0 s h in
@@ -202,7 +205,7 @@ front-says s h =
           sym (ap (λ (x : List ℕ). take (length rows) (rowsInFront x .rows)) e
           ∙ ap (λ (x : FrontRows). take (length rows) (x .rows)) q ∙ take-append-seam rows _);
       ends-closed = (
-        λ c. g .bytes ∙ ap (λ (x : List ℕ). rowRecords (f .rows) ++ x) (g .closes c ∙ ap close z),
+        λ c. g .bytes ∙ ap (λ (x : List ℕ). rowRecords (f .rows) ++ x) (g .closes c ∙ ap close z) ∙ sym (card-is (f .rows)),
         λ e. ap (λ (x : List ℕ). rowsInFront x .ends) e ∙ ap (λ (x : FrontRows). x .ends) (reads-card (f .rows) o),
       );
     }

@@ -1,68 +1,51 @@
--- The record in front of a card: a row's or a close's record is read as what it is, and what is read as one is one.
-use mathlib.Core.Path.{_≡_, refl, sym, ap, ap₂, _∙_}
-use mathlib.Core.Logic.{_≢_}
+-- The records of a card by their fields: a row's or a close's record is read as what it is, and what is read as one is one.
+use mathlib.Core.Path.{_≡_, refl, sym, ap, _∙_}
 use mathlib.Core.Bool.{Bool, true, false, cond}
-use mathlib.Core.List.{List, [], _++_, append-assoc}
+use mathlib.Core.List.{List, [], _∷_, _++_, append-assoc}
 use Prim.Native.Nat.{ℕ, _+_, _-_, _^_, _≤_, _<_}
-use native.Mathlib.Nat.{add-zero, add-sub-cancel-left}
+use native.Mathlib.Nat.{add-sub-cancel-left}
 use native.Mathlib.Omega.{arith}
-use borrow.Author.Tests.{eq-eqb, ne-eqb, lt-ltb, le-ltb, eqb-true, ltb-false}
+use borrow.Author.Tests.{eqb-true, ltb-true, ltb-false}
 use lib.Dec.{ltb, eqb}
 use lib.ListN.{length, take, drop, length-append, length-drop, take-append-drop}
 use lib.Seq.{take-at, drop-at, drop-drop, length-take-le}
+use Rattle.octets.specs.Bytes.{Bytes}
+use Rattle.octets.specs.Numbers.{le, littleAt}
+use Rattle.octets.proofs.Elements.{bytes-take, bytes-drop}
+use Rattle.octets.proofs.LowFirst.{le-length, number-of, number-split, number-fits}
 use Rattle.key_book.specs.Limits.{slotSize}
-use Rattle.book_card.specs.Numbers.{le, numberAt, Bytes}
-use Rattle.book_card.specs.Card.{lengthSize, kindSize, idSize, counterSize, countSize, rowKind, closeKind, Row, recordOf, rowRecord, close, RowFits}
-use Rattle.book_card.specs.Reader.{kindAt, bodyAt, receivedAt, sentAt, keyAt, closeSize, frontBy, frontOf, rowFront}
+use Rattle.book_card.specs.Layout.{lengthSize, kindSize, idSize, counterSize, countSize, rowKind, closeKind}
+use Rattle.book_card.specs.Layout.{kindAt, bodyAt, receivedAt, sentAt, keyAt, closeSize}
+use Rattle.book_card.specs.Card.{Row, recordOf, rowRecord, close, rowRecords, cardOf, RowFits}
+use Rattle.book_card.specs.Reader.{frontBy, frontOf, rowFront}
 use Rattle.book_card.specs.declared.Front.{Front}
 use Rattle.book_card.specs.declared.Front.the-variants.{Broken, Row as RowFront, Close}
-use Rattle.book_card.proofs.Little.{le-length, number-in, number-from, number-split, number-fits, bytes-drop, bytes-take}
+use Rattle.book_card.proofs.Fronts.{front-short, front-cut, by-kind, front-close, front-row}
 
--- the numbers of a record at a place of a card are those of the card from there on
-pub here : (card : List ℕ) (at width x : ℕ) → x ≡ numberAt card at width → x ≡ numberAt (drop at card) 0 width
-here card at width x e = e ∙ sym (number-from card at 0 width ∙ ap (λ (n : ℕ). numberAt card n width) (add-zero at))
+-- ---- the records, field by field, with bytes after them
 
-pub there : (card : List ℕ) (at more width x : ℕ) → x ≡ numberAt card (at + more) width → x ≡ numberAt (drop at card) more width
-there card at more width x e = e ∙ sym (number-from card at more width)
+abbrev pub rowFields : Row → List ℕ → List ℕ
+rowFields r t =
+    le lengthSize (keyAt - lengthSize + length (r .key))
+    ++ (le kindSize rowKind ++ (le idSize (r .id) ++ (le counterSize (r .received) ++ (le counterSize (r .sent) ++ (r .key ++ t)))))
 
--- each case of `frontOf`, by what its tests say; `long` is how many bytes are left
-module _ (s : List ℕ) (long : ℕ) (el : long ≡ length s) (size : ℕ) (e : size ≡ numberAt s 0 lengthSize) where
-  pub front-short : long < bodyAt → Broken ≡ frontOf s
-  unfolding frontOf
-  front-short h = rw (sym el, lt-ltb _ bodyAt h)
+abbrev pub closeFields : ℕ → List ℕ → List ℕ
+closeFields n t = le lengthSize (closeSize - lengthSize) ++ (le kindSize closeKind ++ (le countSize n ++ t))
 
-  module _ (h₀ : bodyAt ≤ long) where
-    pub front-cut : long - lengthSize < size → Broken ≡ frontOf s
-    unfolding frontOf
-    front-cut h = rw (sym el, le-ltb _ bodyAt h₀, sym e, lt-ltb _ size h)
+module _ (r : Row) (t : List ℕ) where
+  pub row-fields : rowRecord r ++ t ≡ rowFields r t
+  unfolding rowRecord recordOf
+  row-fields =
+      let body = le idSize (r .id) ++ (le counterSize (r .received) ++ (le counterSize (r .sent) ++ r .key)) in
+      let e : kindSize + length body ≡ keyAt - lengthSize + length (r .key) = simp (length-append, le-length) (omega arith) in
+      ap (λ (n : ℕ). (le lengthSize n ++ (le kindSize rowKind ++ body)) ++ t) e ∙ simp append-assoc
 
-    module _ (h₁ : size ≤ long - lengthSize) (kind : ℕ) (f : kind ≡ numberAt s kindAt kindSize) where
-      by-kind : frontBy s size kind ≡ frontOf s
-      unfolding frontOf
-      by-kind = rw (sym el, le-ltb _ bodyAt h₀, sym e, le-ltb _ size h₁, sym f)
-
-      pub front-close : kind ≡ closeKind → size ≡ closeSize - lengthSize → (m : ℕ) → m ≡ numberAt s bodyAt countSize → Close m ≡ frontOf s
-      front-close k z m g = ap Close g ∙ (rw (eq-eqb kind closeKind k, eq-eqb size _ z) at by-kind)
-
-      pub front-close-size : kind ≡ closeKind → size ≢ closeSize - lengthSize → Broken ≡ frontOf s
-      front-close-size k z = rw (eq-eqb kind closeKind k, ne-eqb size (closeSize - lengthSize) z) at by-kind
-
-      module _ (k : kind ≢ closeKind) where
-        pub front-kind : kind ≢ rowKind → Broken ≡ frontOf s
-        front-kind r = rw (ne-eqb kind closeKind k, ne-eqb kind rowKind r) at by-kind
-
-        module _ (r : kind ≡ rowKind) where
-          pub front-row-short : size < keyAt - lengthSize + 1 → Broken ≡ frontOf s
-          front-row-short l = rw (ne-eqb kind closeKind k, eq-eqb kind rowKind r, lt-ltb size (keyAt - lengthSize + 1) l) at by-kind
-
-          module _ (l : keyAt - lengthSize + 1 ≤ size) where
-            pub front-row-long : keyAt - lengthSize + slotSize < size → Broken ≡ frontOf s
-            front-row-long m = rw (ne-eqb kind closeKind k, eq-eqb kind rowKind r, le-ltb size (keyAt - lengthSize + 1) l, lt-ltb (keyAt - lengthSize + slotSize) size m) at by-kind
-
-            pub front-row : size ≤ keyAt - lengthSize + slotSize → (id : ℕ) → id ≡ numberAt s bodyAt idSize → RowFront id (size - (keyAt - lengthSize)) ≡ frontOf s
-            front-row m id g =
-                ap (λ (x : ℕ). RowFront x (size - (keyAt - lengthSize))) g
-                ∙ (rw (ne-eqb kind closeKind k, eq-eqb kind rowKind r, le-ltb size (keyAt - lengthSize + 1) l, le-ltb (keyAt - lengthSize + slotSize) size m) at by-kind)
+module _ (n : ℕ) (t : List ℕ) where
+  pub close-fields : close n ++ t ≡ closeFields n t
+  unfolding close recordOf
+  close-fields =
+      let e : kindSize + length (le countSize n) ≡ closeSize - lengthSize = ap (λ (x : ℕ). kindSize + x) (le-length countSize n) in
+      ap (λ (x : ℕ). (le lengthSize x ++ (le kindSize closeKind ++ le countSize n)) ++ t) e ∙ simp append-assoc
 
 pub row-size : (r : Row) → length (rowRecord r) ≡ keyAt + length (r .key)
 unfolding rowRecord recordOf
@@ -72,61 +55,50 @@ pub close-size : (n : ℕ) → length (close n) ≡ closeSize
 unfolding close recordOf
 close-size n = simp (length-append, le-length) (omega arith)
 
+-- rows' records one after another, with bytes after them, and the card
+pub records-cons : (r : Row) (rows : List Row) (t : List ℕ) → rowRecords (r ∷ rows) ++ t ≡ rowRecord r ++ (rowRecords rows ++ t)
+unfolding rowRecords
+records-cons r rows t = append-assoc (rowRecord r) (rowRecords rows) t
+
+pub records-none : (t : List ℕ) → rowRecords [] ++ t ≡ t
+unfolding rowRecords
+records-none t = refl
+
+pub card-is : (rows : List Row) → cardOf rows ≡ rowRecords rows ++ close (length rows)
+unfolding cardOf
+card-is rows = refl
+
+-- ---- a record in front is read as what it is
+
 -- what the fields read where a row's record stands in front, with t after it
 pub record RowRead (s : List ℕ) (r : Row) (t : List ℕ) : Type 0 where
   pub long : keyAt + length (r .key) ≤ length s
-  pub size : numberAt s 0 lengthSize ≡ keyAt - lengthSize + length (r .key)
-  pub kind : numberAt s kindAt kindSize ≡ rowKind
-  pub id : numberAt s bodyAt idSize ≡ r .id
-  pub received : numberAt s receivedAt counterSize ≡ r .received
-  pub sent : numberAt s sentAt counterSize ≡ r .sent
+  pub size : littleAt s 0 lengthSize ≡ keyAt - lengthSize + length (r .key)
+  pub kind : littleAt s kindAt kindSize ≡ rowKind
+  pub id : littleAt s bodyAt idSize ≡ r .id
+  pub received : littleAt s receivedAt counterSize ≡ r .received
+  pub sent : littleAt s sentAt counterSize ≡ r .sent
   pub key : take (length (r .key)) (drop keyAt s) ≡ r .key
   pub rest : drop (keyAt + length (r .key)) s ≡ t
 
 module _ (r : Row) (t : List ℕ) (f : RowFits r) where
-  abbrev bodySize : ℕ
-  bodySize = length (le idSize (r .id) ++ (le counterSize (r .received) ++ (le counterSize (r .sent) ++ r .key)))
-
-  body-size : kindSize + bodySize ≡ keyAt - lengthSize + length (r .key)
-  body-size = simp (length-append, le-length) (omega arith)
-
-  abbrev head : List ℕ
-  head = le lengthSize (kindSize + bodySize)
-
-  -- the record's bytes, cut at each field
-  cut-size : rowRecord r ++ t ≡ [] ++ (head ++ (le kindSize rowKind ++ ((le idSize (r .id) ++ (le counterSize (r .received) ++ (le counterSize (r .sent) ++ r .key))) ++ t)))
-  unfolding rowRecord recordOf
-  cut-size = simp append-assoc
-
-  cut-kind : rowRecord r ++ t ≡ head ++ (le kindSize rowKind ++ ((le idSize (r .id) ++ (le counterSize (r .received) ++ (le counterSize (r .sent) ++ r .key))) ++ t))
-  cut-kind = cut-size
-
-  cut-id : rowRecord r ++ t ≡ (head ++ le kindSize rowKind) ++ (le idSize (r .id) ++ ((le counterSize (r .received) ++ (le counterSize (r .sent) ++ r .key)) ++ t))
-  cut-id = cut-size ∙ simp append-assoc
-
-  cut-received : rowRecord r ++ t ≡ ((head ++ le kindSize rowKind) ++ le idSize (r .id)) ++ (le counterSize (r .received) ++ ((le counterSize (r .sent) ++ r .key) ++ t))
-  cut-received = cut-size ∙ simp append-assoc
-
-  cut-sent : rowRecord r ++ t ≡ (((head ++ le kindSize rowKind) ++ le idSize (r .id)) ++ le counterSize (r .received)) ++ (le counterSize (r .sent) ++ (r .key ++ t))
-  cut-sent = cut-size ∙ simp append-assoc
-
-  cut-key : rowRecord r ++ t ≡ ((((head ++ le kindSize rowKind) ++ le idSize (r .id)) ++ le counterSize (r .received)) ++ le counterSize (r .sent)) ++ (r .key ++ t)
-  cut-key = cut-size ∙ simp append-assoc
-
   pub row-read : RowRead (rowRecord r ++ t) r t
   row-read =
+      let s = rowRecord r ++ t in
       let k = f .key-to in
-      let i : r .id < 256 ^ idSize = f .id-fits in
-      let v : r .received < 256 ^ counterSize = f .received-fits in
-      let n : r .sent < 256 ^ counterSize = f .sent-fits in
+      let f₁ = number-of s 0 lengthSize (keyAt - lengthSize + length (r .key)) _ (row-fields r t) (omega arith) in
+      let f₂ = number-of s kindAt kindSize rowKind _ (f₁ .1) (omega arith) in
+      let f₃ = number-of s bodyAt idSize (r .id) _ (f₂ .1) (f .id-fits) in
+      let f₄ = number-of s receivedAt counterSize (r .received) _ (f₃ .1) (f .received-fits) in
+      let f₅ = number-of s sentAt counterSize (r .sent) _ (f₄ .1) (f .sent-fits) in
       record {
         long = rw (length-append (rowRecord r) t, row-size r) (omega arith);
-        size = rw cut-size (number-in [] _ lengthSize (kindSize + bodySize) 0 refl (rw body-size (omega arith)) ∙ body-size);
-        kind = rw cut-kind (number-in head _ kindSize rowKind kindAt (le-length lengthSize (kindSize + bodySize)) (omega arith));
-        id = rw cut-id (number-in (head ++ le kindSize rowKind) _ idSize (r .id) bodyAt (simp (length-append, le-length)) i);
-        received = rw cut-received (number-in ((head ++ le kindSize rowKind) ++ le idSize (r .id)) _ counterSize (r .received) receivedAt (simp (length-append, le-length)) v);
-        sent = rw cut-sent (number-in (((head ++ le kindSize rowKind) ++ le idSize (r .id)) ++ le counterSize (r .received)) _ counterSize (r .sent) sentAt (simp (length-append, le-length)) n);
-        key = rw (cut-key, drop-at ((((head ++ le kindSize rowKind) ++ le idSize (r .id)) ++ le counterSize (r .received)) ++ le counterSize (r .sent)) (r .key ++ t) keyAt (simp (length-append, le-length))) (take-at (r .key) t (length (r .key)) refl);
+        size = f₁ .0;
+        kind = f₂ .0;
+        id = f₃ .0;
+        received = f₄ .0;
+        sent = f₅ .0;
+        key = ap (take (length (r .key))) (f₅ .1) ∙ take-at (r .key) t (length (r .key)) refl;
         rest = drop-at (rowRecord r) t (keyAt + length (r .key)) (row-size r);
       }
 
@@ -135,38 +107,28 @@ module _ (r : Row) (t : List ℕ) (f : RowFits r) where
       let s = rowRecord r ++ t in
       let q = row-read in
       let l = q .long in
-      let z = q .size in
       let from = f .key-from in
       let to = f .key-to in
       let size = keyAt - lengthSize + length (r .key) in
-      let d : size - (keyAt - lengthSize) ≡ length (r .key) = add-sub-cancel-left (keyAt - lengthSize) (length (r .key)) in
-      sym (front-row s (length s) refl size (sym z) (omega arith) (omega arith) rowKind (sym (q .kind)) (λ e. absurd (omega arith)) refl (omega arith) (omega arith) (r .id) (sym (q .id)))
-      ∙ ap (RowFront (r .id)) d
+      sym (front-row s 0 size (sym (q .size)) (omega arith) (omega arith) rowKind (sym (q .kind)) (λ e. absurd (omega arith)) refl
+      (omega arith) (omega arith) (r .id) (sym (q .id)))
+      ∙ ap (RowFront (r .id)) (add-sub-cancel-left (keyAt - lengthSize) (length (r .key)))
 
   pub row-of-front : rowFront (rowRecord r ++ t) (length (r .key)) ≡ r
   row-of-front = let q = row-read in λ i. record { id = q .id i; received = q .received i; sent = q .sent i; key = q .key i }
 
--- the close in front
-module _ (n : ℕ) (t : List ℕ) (h : n < 256 ^ countSize) where
-  abbrev closeHead : List ℕ
-  closeHead = le lengthSize (kindSize + length (le countSize n))
+pub front-of-close : (n : ℕ) (t : List ℕ) → n < 256 ^ countSize → frontOf (close n ++ t) ≡ Close n
+front-of-close n t h =
+    let s = close n ++ t in
+    let l : length s ≡ closeSize + length t = length-append (close n) t ∙ ap (λ (x : ℕ). x + length t) (close-size n) in
+    let f₁ = number-of s 0 lengthSize (closeSize - lengthSize) _ (close-fields n t) (omega arith) in
+    let f₂ = number-of s kindAt kindSize closeKind _ (f₁ .1) (omega arith) in
+    let f₃ = number-of s bodyAt countSize n _ (f₂ .1) h in
+    sym (front-close s 0 (closeSize - lengthSize) (sym (f₁ .0)) (omega arith) (omega arith) closeKind (sym (f₂ .0)) refl refl n (sym (f₃ .0)))
 
-  cut-close : close n ++ t ≡ closeHead ++ (le kindSize closeKind ++ (le countSize n ++ t))
-  unfolding close recordOf
-  cut-close = simp append-assoc
+-- ---- what is read as a record is one
 
-  pub front-of-close : frontOf (close n ++ t) ≡ Close n
-  front-of-close =
-      let s = close n ++ t in
-      let l : length s ≡ closeSize + length t = length-append (close n) t ∙ ap (λ (x : ℕ). x + length t) (close-size n) in
-      let e : kindSize + length (le countSize n) ≡ closeSize - lengthSize = ap (λ (x : ℕ). kindSize + x) (le-length countSize n) in
-      let z : numberAt s 0 lengthSize ≡ closeSize - lengthSize = rw cut-close (number-in [] _ lengthSize (kindSize + length (le countSize n)) 0 refl (rw e (omega arith)) ∙ e) in
-      let k : numberAt s kindAt kindSize ≡ closeKind = rw cut-close (number-in closeHead _ kindSize closeKind kindAt (le-length lengthSize (kindSize + length (le countSize n))) (omega arith)) in
-      let c : numberAt s bodyAt countSize ≡ n =
-      rw (cut-close, ← append-assoc closeHead (le kindSize closeKind) (le countSize n ++ t)) (number-in (closeHead ++ le kindSize closeKind) t countSize n bodyAt (simp (length-append, le-length)) h) in
-      sym (front-close s (length s) refl (closeSize - lengthSize) (sym z) (omega arith) (omega arith) closeKind (sym k) refl refl n (sym c))
-
--- what is read as a row is one: its fields fit, and its record is in front
+-- a row: its fields fit, and its record is in front
 pub record GoodRow (s : List ℕ) (id size : ℕ) : Type 0 where
   pub long : keyAt + size ≤ length s
   pub named : rowFront s size .id ≡ id
@@ -181,41 +143,36 @@ FrontGood s Broken = Unit {0}
 FrontGood s (RowFront id size) = GoodRow s id size
 FrontGood s (Close n) = GoodClose s n
 
-module _ (s : List ℕ) (h : Bytes s) (h₀ : bodyAt ≤ length s) (size : ℕ) (e : numberAt s 0 lengthSize ≡ size) (h₁ : size ≤ length s - lengthSize) (kind : ℕ) (f : numberAt s kindAt kindSize ≡ kind) where
-  head-bytes : s ≡ le lengthSize size ++ (le kindSize kind ++ drop bodyAt s)
-  head-bytes =
-      number-split s h 0 lengthSize (omega arith)
-      ∙ ap₂ (λ (n : ℕ) (l : List ℕ). le lengthSize n ++ l) e (number-split s h kindAt kindSize (omega arith) ∙ ap (λ (n : ℕ). le kindSize n ++ drop bodyAt s) f)
+-- what the first two fields say
+abbrev sizeIn : List ℕ → ℕ
+sizeIn s = littleAt s 0 lengthSize
 
-  good-close : kind ≡ closeKind → size ≡ closeSize - lengthSize → GoodClose s (numberAt s bodyAt countSize)
-  unfolding close recordOf
+abbrev kindIn : List ℕ → ℕ
+kindIn s = littleAt s kindAt kindSize
+
+module _ (s : List ℕ) (h : Bytes s) (h₀ : bodyAt ≤ length s) (h₁ : sizeIn s ≤ length s - lengthSize) where
+  -- the bytes from a field on, by its number and what follows it
+  field : (at width : ℕ) → at + width ≤ length s → (x : ℕ) (t : List ℕ) → littleAt s at width ≡ x → drop (at + width) s ≡ t → drop at s ≡ le width x ++ t
+  field at width fits = number-split s h at width fits
+
+  good-close : kindIn s ≡ closeKind → sizeIn s ≡ closeSize - lengthSize → GoodClose s (littleAt s bodyAt countSize)
   good-close k z =
-      let n = numberAt s bodyAt countSize in
-      let l : size ≡ kindSize + length (le countSize n) = z ∙ sym (ap (λ (x : ℕ). kindSize + x) (le-length countSize n)) in
       record {
-        bytes = head-bytes ∙ ap₂ (λ (x y : ℕ). le lengthSize x ++ (le kindSize y ++ drop bodyAt s)) l k
-            ∙ ap (λ (x : List ℕ). le lengthSize (kindSize + length (le countSize n)) ++ (le kindSize closeKind ++ x)) (number-split s h bodyAt countSize (omega arith))
-            ∙ simp append-assoc;
+        bytes = field 0 lengthSize (omega arith) _ _ z
+            (field kindAt kindSize (omega arith) _ _ k (field bodyAt countSize (omega arith) _ _ refl refl))
+            ∙ sym (close-fields _ (drop closeSize s));
       }
 
-  good-row : kind ≡ rowKind → keyAt - lengthSize + 1 ≤ size → size ≤ keyAt - lengthSize + slotSize → GoodRow s (numberAt s bodyAt idSize) (size - (keyAt - lengthSize))
-  unfolding rowRecord recordOf
+  good-row : kindIn s ≡ rowKind → keyAt - lengthSize + 1 ≤ sizeIn s → sizeIn s ≤ keyAt - lengthSize + slotSize
+      → GoodRow s (littleAt s bodyAt idSize) (sizeIn s - (keyAt - lengthSize))
   good-row k from to =
-      let n = size - (keyAt - lengthSize) in
+      let n = sizeIn s - (keyAt - lengthSize) in
       let r = rowFront s n in
       let long : keyAt + n ≤ length s = omega arith in
       let kl : length (r .key) ≡ n = length-take-le n (drop keyAt s) (rw length-drop (omega arith)) in
-      let body = le idSize (r .id) ++ (le counterSize (r .received) ++ (le counterSize (r .sent) ++ r .key)) in
-      let bl : length body ≡ keyAt - bodyAt + n = simp (length-append, le-length) (rw kl (omega arith)) in
-      let l : size ≡ kindSize + length body = rw bl (omega arith) in
-      let split : drop bodyAt s ≡ body ++ drop (keyAt + n) s =
-      number-split s h bodyAt idSize (omega arith)
-      ∙ ap (λ (x : List ℕ). le idSize (r .id) ++ x)
-      (number-split s h receivedAt counterSize (omega arith)
-      ∙ ap (λ (x : List ℕ). le counterSize (r .received) ++ x)
-      (number-split s h sentAt counterSize (omega arith)
-      ∙ ap (λ (x : List ℕ). le counterSize (r .sent) ++ x) (sym (take-append-drop n (drop keyAt s)) ∙ ap (λ (x : List ℕ). r .key ++ x) (drop-drop n keyAt s))))
-      ∙ simp append-assoc in
+      let z : sizeIn s ≡ keyAt - lengthSize + length (r .key) = omega arith in
+      let key : drop keyAt s ≡ r .key ++ drop (keyAt + n) s =
+      sym (take-append-drop n (drop keyAt s)) ∙ ap (λ (x : List ℕ). r .key ++ x) (drop-drop n keyAt s) in
       record {
         long = long;
         named = refl;
@@ -225,33 +182,41 @@ module _ (s : List ℕ) (h : Bytes s) (h₀ : bodyAt ≤ length s) (size : ℕ) 
           sent-fits = number-fits s h sentAt counterSize (omega arith);
           key-from = rw kl (omega arith);
           key-to = rw kl (omega arith);
-          key-bytes = bytes-take (drop keyAt s) (bytes-drop s h keyAt) n;
+          key-bytes = bytes-take n (drop keyAt s) (bytes-drop keyAt s h);
         };
-        bytes = head-bytes ∙ ap₂ (λ (x y : ℕ). le lengthSize x ++ (le kindSize y ++ drop bodyAt s)) l k
-            ∙ ap (λ (x : List ℕ). le lengthSize (kindSize + length body) ++ (le kindSize rowKind ++ x)) split
-            ∙ simp append-assoc;
+        bytes = field 0 lengthSize (omega arith) _ _ z
+            (field kindAt kindSize (omega arith) _ _ k
+            (field bodyAt idSize (omega arith) _ _ refl
+            (field receivedAt counterSize (omega arith) _ _ refl (field sentAt counterSize (omega arith) _ _ refl key))))
+            ∙ sym (row-fields r (drop (keyAt + n) s));
       }
 
-  good-by-kind : (t : Bool) → eqb kind closeKind ≡ t → (u : Bool) → eqb kind rowKind ≡ u → (v : Bool) → eqb size (closeSize - lengthSize) ≡ v
-      → (w : Bool) → ltb size (keyAt - lengthSize + 1) ≡ w → (x : Bool) → ltb (keyAt - lengthSize + slotSize) size ≡ x
-      → FrontGood s (cond t (cond v (Close (numberAt s bodyAt countSize)) Broken)
-      (cond u (cond w Broken (cond x Broken (RowFront (numberAt s bodyAt idSize) (size - (keyAt - lengthSize))))) Broken))
+  good-by : (t : Bool) → eqb (kindIn s) closeKind ≡ t → (u : Bool) → eqb (kindIn s) rowKind ≡ u → (v : Bool) → eqb (sizeIn s) (closeSize - lengthSize) ≡ v
+      → (w : Bool) → ltb (sizeIn s) (keyAt - lengthSize + 1) ≡ w → (x : Bool) → ltb (keyAt - lengthSize + slotSize) (sizeIn s) ≡ x
+      → FrontGood s (cond t (cond v (Close (littleAt s bodyAt countSize)) Broken)
+      (cond u (cond w Broken (cond x Broken (RowFront (littleAt s bodyAt idSize) (sizeIn s - (keyAt - lengthSize))))) Broken))
   unfolding FrontGood
-  good-by-kind true p u q true r w y x z = good-close (eqb-true _ _ p) (eqb-true _ _ r)
-  good-by-kind true p u q false r w y x z = tt
-  good-by-kind false p false q v r w y x z = tt
-  good-by-kind false p true q v r true y x z = tt
-  good-by-kind false p true q v r false y true z = tt
-  good-by-kind false p true q v r false y false z = good-row (eqb-true _ _ q) (ltb-false _ _ y) (ltb-false _ _ z)
+  good-by true p u q true r w y x z = good-close (eqb-true _ _ p) (eqb-true _ _ r)
+  good-by true p u q false r w y x z = tt
+  good-by false p false q v r w y x z = tt
+  good-by false p true q v r true y x z = tt
+  good-by false p true q v r false y true z = tt
+  good-by false p true q v r false y false z = good-row (eqb-true _ _ q) (ltb-false _ _ y) (ltb-false _ _ z)
+
+  good-by-kind : FrontGood s (frontBy s (sizeIn s) (kindIn s))
+  good-by-kind = good-by _ refl _ refl _ refl _ refl _ refl
 
 pub front-good : (s : List ℕ) → Bytes s → FrontGood s (frontOf s)
-unfolding frontOf FrontGood
-front-good s h = on (ltb (length s) bodyAt) refl (ltb (length s - lengthSize) (numberAt s 0 lengthSize)) refl
+unfolding FrontGood
+front-good s h = on (ltb (length s) bodyAt) refl (ltb (length s - lengthSize) (sizeIn s)) refl
   where
-    on : (t : Bool) → ltb (length s) bodyAt ≡ t → (u : Bool) → ltb (length s - lengthSize) (numberAt s 0 lengthSize) ≡ u
-        → FrontGood s (cond t Broken (cond u Broken (frontBy s (numberAt s 0 lengthSize) (numberAt s kindAt kindSize))))
-    on true p u q = tt
-    on false p true q = tt
+    on : (t : Bool) → ltb (length s) bodyAt ≡ t → (u : Bool) → ltb (length s - lengthSize) (sizeIn s) ≡ u → FrontGood s (frontOf s)
+    on true p u q = let l = ltb-true (length s) bodyAt p in rw (sym (front-short s 0 (omega arith))) tt
+    on false p true q =
+        let l = ltb-false (length s) bodyAt p in
+        let m = ltb-true (length s - lengthSize) (sizeIn s) q in
+        rw (sym (front-cut s 0 _ refl (omega arith) (omega arith))) tt
     on false p false q =
-        good-by-kind s h (ltb-false _ _ p) (numberAt s 0 lengthSize) refl (ltb-false _ _ q) (numberAt s kindAt kindSize) refl
-        _ refl _ refl _ refl _ refl _ refl
+        let l = ltb-false (length s) bodyAt p in
+        let m = ltb-false (length s - lengthSize) (sizeIn s) q in
+        rw (sym (by-kind s 0 _ refl (omega arith) (omega arith) _ refl)) (good-by-kind s h l m)

@@ -1,30 +1,32 @@
--- Writing a card: its size, what storing one field after another leaves, what each turn over the rows keeps, and each end of `card_write`.
+-- Writing a card: its size, the fields of a record written one after another, what each turn over the rows keeps, and each end of `card_write`.
 use mathlib.Core.Path.{_≡_, refl, sym, ap, ap₂, _∙_}
 use mathlib.Core.Bool.{Bool, true, false, not}
-use mathlib.Core.List.{List, _++_, append-assoc}
+use mathlib.Core.List.{List, [], _++_, append-nil}
 use Prim.Native.Nat.{ℕ, zero, suc, _+_, _-_, _*_, _≤_, _<_}
-use native.Mathlib.Nat.{add-zero, zero-add}
 use native.Mathlib.Omega.{arith}
 use borrow.Author.Tests.{lt-ltb, le-ltb, not-true, not-false}
 use lib.ListN.{length, getD, take, drop, length-append}
-use lib.Seq.{sets-eq}
 use Rattle.refusal.specs.declared.Refusal.the-variants.{UnsoundBook, NoRoomForCard}
+use Rattle.octets.specs.Bytes.{written}
+use Rattle.octets.specs.Numbers.{le}
+use Rattle.octets.proofs.Written.{written-first}
+use Rattle.octets.proofs.LowFirst.{le-length}
+use Rattle.octets.proofs.Loops.{Writing, writing-run, writing-end}
 use Rattle.key_book.specs.Limits.{rowsMost, slotSize}
 use Rattle.key_book.specs.Book.{Book, bookOf, Sound, sound}
 use Rattle.key_book.specs.Laws.{Within}
 use Rattle.key_book.proofs.Says.{sound-says, rows-within, key-says, key-is, key-long}
-use Rattle.book_card.specs.Numbers.{le}
-use Rattle.book_card.specs.Card.{lengthSize, kindSize, idSize, counterSize, countSize, rowKind, closeKind, Row, recordOf, rowRecord, close, rowRecords, cardOf}
-use Rattle.book_card.specs.Reader.{kindAt, bodyAt, receivedAt, sentAt, keyAt, closeSize}
-use Rattle.book_card.specs.Stores.{storedAt}
+use Rattle.book_card.specs.Layout.{lengthSize, kindSize, idSize, counterSize, countSize, rowKind, closeKind}
+use Rattle.book_card.specs.Layout.{kindAt, bodyAt, receivedAt, sentAt, keyAt, closeSize}
+use Rattle.book_card.specs.Card.{rowRecord, close, rowRecords, cardOf}
 use Rattle.book_card.specs.Writing.{rowAt, rowsFrom, rowsOf, sizeTo, writeOf, roomAfter, roomBy}
 use Rattle.book_card.specs.declared.WriteAnswer.{WriteAnswer}
 use Rattle.book_card.specs.declared.WriteAnswer.the-variants.{Refused, Size}
-use Rattle.book_card.proofs.Little.{le-length}
-use Rattle.book_card.proofs.Loops.{stored-length, stored-append}
-use Rattle.book_card.proofs.Shape.{row-size, close-size}
+use Rattle.book_card.proofs.Shape.{rowFields, row-fields, closeFields, close-fields, row-size, close-size, records-cons, records-none, card-is}
 
--- sizes are being added up
+-- ---- the size of a card
+
+-- sizes are being added up; a key length is a byte
 pub record Summing (lengths : List ℕ) (rows size row : ℕ) : Type 0 where
   pub within : row ≤ rows
   pub sum : size ≡ sizeTo lengths row
@@ -35,177 +37,189 @@ module _ (lengths : List ℕ) (rows : ℕ) where
   unfolding sizeTo
   summing-start = record { within = omega arith; sum = refl; small = omega arith }
 
-  pub summing-turn : (size row : ℕ) → Summing lengths rows size row → row < rows → getD lengths row 0 < 256 → Summing lengths rows (size + (keyAt + getD lengths row 0)) (row + 1)
-  unfolding sizeTo
-  summing-turn size row s h byte =
-      let e : row + 1 ≡ suc row = omega arith in
-      let m = s .small in
-      record { within = omega arith; sum = rw e (ap (λ (n : ℕ). n + (keyAt + getD lengths row 0)) (s .sum)); small = omega arith }
+  module _ (size row : ℕ) (s : Summing lengths rows size row) where
+    pub summing-turn : row < rows → getD lengths row 0 < 256 → Summing lengths rows (size + (keyAt + getD lengths row 0)) (row + 1)
+    unfolding sizeTo
+    summing-turn h byte =
+        let e : row + 1 ≡ suc row = omega arith in
+        let m = s .small in
+        record { within = omega arith; sum = rw e (ap (λ (n : ℕ). n + (keyAt + getD lengths row 0)) (s .sum)); small = omega arith }
 
-  pub summing-end : (size row : ℕ) → Summing lengths rows size row → rows ≤ row → size ≡ sizeTo lengths rows
-  summing-end size row s h =
-      let w = s .within in
-      let e : row ≡ rows = omega arith in
-      rw (← e) (s .sum)
+    pub summing-end : rows ≤ row → size ≡ sizeTo lengths rows
+    summing-end h =
+        let w = s .within in
+        let e : row ≡ rows = omega arith in
+        rw (← e) (s .sum)
 
 pub rows-length : (b : Book) (k n : ℕ) → length (rowsFrom b k n) ≡ n
 unfolding rowsFrom
 rows-length b k zero = refl
 rows-length b k (suc n) = ap suc (rows-length b (suc k) n)
 
+-- the bytes of a book's card from a row on
+unfoldable pub restOf : Book → ℕ → ℕ → List ℕ
+restOf b row left = rowRecords (rowsFrom b row left) ++ close (b .rows)
+
+rest-next : (b : Book) (row left : ℕ) → restOf b row (suc left) ≡ rowRecord (rowAt b row) ++ restOf b (suc row) left
+unfolding restOf rowsFrom
+rest-next b row left = records-cons (rowAt b row) (rowsFrom b (suc row) left) (close (b .rows))
+
+rest-last : (b : Book) (row : ℕ) → restOf b row 0 ≡ close (b .rows)
+unfolding restOf rowsFrom
+rest-last b row = records-none (close (b .rows))
+
+rest-all : (b : Book) → cardOf (rowsOf b) ≡ restOf b 0 (b .rows)
+unfolding restOf rowsOf
+rest-all b = card-is (rowsFrom b 0 (b .rows)) ∙ ap (λ (n : ℕ). rowRecords (rowsFrom b 0 (b .rows)) ++ close n) (rows-length b 0 (b .rows))
+
 module _ (b : Book) (s : Sound b) where
-  pub row-length : (k : ℕ) → k < b .rows → length (rowRecord (rowAt b k)) ≡ keyAt + getD (b .lengths) k 0
+  row-length : (k : ℕ) → k < b .rows → length (rowRecord (rowAt b k)) ≡ keyAt + getD (b .lengths) k 0
   row-length k h = row-size (rowAt b k) ∙ ap (λ (n : ℕ). keyAt + n) (key-says b s k h .size)
 
-  records-size : (n k : ℕ) → k + n ≤ b .rows → sizeTo (b .lengths) k + length (rowRecords (rowsFrom b k n)) ≡ sizeTo (b .lengths) (k + n)
-  unfolding rowsFrom rowRecords sizeTo
-  records-size zero k h = rw (add-zero k) (add-zero (sizeTo (b .lengths) k))
-  records-size (suc n) k h =
-      let ih = records-size n (suc k) (omega arith) in
-      let e : suc k + n ≡ k + suc n = omega arith in
-      let l = length-append (rowRecord (rowAt b k)) (rowRecords (rowsFrom b (suc k) n)) in
-      let m = row-length k (omega arith) in
-      rw (sym e) (omega arith)
+  rest-length : (row left : ℕ) → row < b .rows → length (restOf b row (suc left)) ≡ keyAt + getD (b .lengths) row 0 + length (restOf b (suc row) left)
+  rest-length row left h =
+      ap length (rest-next b row left) ∙ length-append (rowRecord (rowAt b row)) (restOf b (suc row) left)
+      ∙ ap (λ (n : ℕ). n + length (restOf b (suc row) left)) (row-length row h)
+
+  rest-size : (left row : ℕ) → row + left ≡ b .rows → sizeTo (b .lengths) row + length (restOf b row left) ≡ sizeTo (b .lengths) (b .rows) + closeSize
+  unfolding sizeTo
+  rest-size zero row e =
+      let q : row ≡ b .rows = omega arith in
+      ap₂ (λ (k n : ℕ). sizeTo (b .lengths) k + n) q (ap length (rest-last b row) ∙ close-size (b .rows))
+  rest-size (suc left) row e =
+      let ih = rest-size left (suc row) (omega arith) in
+      let l = rest-length row left (omega arith) in
+      omega arith
 
   -- the size of a sound book's card, by its key lengths
   pub card-size : length (cardOf (rowsOf b)) ≡ sizeTo (b .lengths) (b .rows)
-  unfolding cardOf rowsOf sizeTo
+  unfolding sizeTo
   card-size =
-      let e : 0 + b .rows ≡ b .rows = omega arith in
-      let m = records-size (b .rows) 0 (omega arith) in
-      let l = length-append (rowRecords (rowsFrom b 0 (b .rows))) (close (length (rowsFrom b 0 (b .rows)))) in
-      let c = close-size (length (rowsFrom b 0 (b .rows))) in
-      let q : sizeTo (b .lengths) (0 + b .rows) ≡ sizeTo (b .lengths) (b .rows) = ap (sizeTo (b .lengths)) e in
+      let l = ap length (rest-all b) in
+      let m = rest-size (b .rows) 0 (omega arith) in
       omega arith
 
--- what is stored after what was
-pub stored-then : (d d₁ d₂ vs ws : List ℕ) (at p : ℕ) → d₁ ≡ storedAt d at vs → p ≡ at + length vs → d₂ ≡ storedAt d₁ p ws → d₂ ≡ storedAt d at (vs ++ ws)
-stored-then d d₁ d₂ vs ws at p e f g = g ∙ ap₂ (λ (l : List ℕ) (n : ℕ). storedAt l n ws) e f ∙ sym (stored-append vs ws d at)
+-- ---- a record
 
--- a list whose first elements were stored
-pub stored-front : (l vs : List ℕ) → length vs ≤ length l → storedAt l 0 vs ≡ vs ++ drop (length vs) l
-unfolding storedAt
-stored-front l vs h = let z = zero-add (length vs) in sets-eq vs l 0 (omega arith) ∙ ap (λ (n : ℕ). vs ++ drop n l) z
+-- one field more, at its place
+module _ (old target : List ℕ) where
+  field : (new new′ : List ℕ) (p q width x : ℕ) (more : List ℕ) → p + width ≡ q → q ≤ length old → Writing old target new p (le width x ++ more)
+      → new′ ≡ written p (le width x) new → Writing old target new′ q more
+  field new new′ p q width x more e h w f =
+      writing-run old target new p (le width x) more q (ap (λ (n : ℕ). p + n) (le-length width x) ∙ e) h w new′ f
 
--- the fields of a row, stored one after another, are its record
-pub row-stored : (d d₁ d₂ d₃ d₄ d₅ d₆ : List ℕ) (at : ℕ) (r : Row) (n : ℕ) → n ≡ keyAt - lengthSize + length (r .key)
-    → d₁ ≡ storedAt d at (le lengthSize n) → d₂ ≡ storedAt d₁ (at + kindAt) (le kindSize rowKind) → d₃ ≡ storedAt d₂ (at + bodyAt) (le idSize (r .id))
-    → d₄ ≡ storedAt d₃ (at + receivedAt) (le counterSize (r .received)) → d₅ ≡ storedAt d₄ (at + sentAt) (le counterSize (r .sent)) → d₆ ≡ storedAt d₅ (at + keyAt) (r .key)
-    → d₆ ≡ storedAt d at (rowRecord r)
-unfolding rowRecord recordOf
-row-stored d d₁ d₂ d₃ d₄ d₅ d₆ at r n en e₁ e₂ e₃ e₄ e₅ e₆ =
-    let h = le lengthSize n in
-    let k = le kindSize rowKind in
-    let i = le idSize (r .id) in
-    let v = le counterSize (r .received) in
-    let s = le counterSize (r .sent) in
-    let f₂ = stored-then d d₁ d₂ h k at (at + kindAt) e₁ (simp le-length) e₂ in
-    let f₃ = stored-then d d₂ d₃ (h ++ k) i at (at + bodyAt) f₂ (simp (length-append, le-length)) e₃ in
-    let f₄ = stored-then d d₃ d₄ ((h ++ k) ++ i) v at (at + receivedAt) f₃ (simp (length-append, le-length)) e₄ in
-    let f₅ = stored-then d d₄ d₅ (((h ++ k) ++ i) ++ v) s at (at + sentAt) f₄ (simp (length-append, le-length)) e₅ in
-    let f₆ = stored-then d d₅ d₆ ((((h ++ k) ++ i) ++ v) ++ s) (r .key) at (at + keyAt) f₅ (simp (length-append, le-length)) e₆ in
-    let body = i ++ (v ++ (s ++ r .key)) in
-    let l : n ≡ kindSize + length body = en ∙ simp (length-append, le-length) (omega arith) in
-    f₆ ∙ ap (storedAt d at) (let a : ((((h ++ k) ++ i) ++ v) ++ s) ++ r .key ≡ h ++ (k ++ body) = simp append-assoc in a ∙ ap (λ (m : ℕ). le lengthSize m ++ (k ++ body)) l)
+-- the fields of a book's row, written one after another, the key from the store, are its record
+module _ (b : Book) (row : ℕ) (w : Within b row) (t : getD (b .lengths) row 0 ≤ slotSize) where
+  pub row-written : (d d₁ d₂ d₃ d₄ d₅ d₆ : List ℕ) (at : ℕ) → at + (keyAt + getD (b .lengths) row 0) ≤ length d
+      → d₁ ≡ written at (le lengthSize (keyAt - lengthSize + getD (b .lengths) row 0)) d
+      → d₂ ≡ written (at + kindAt) (le kindSize rowKind) d₁
+      → d₃ ≡ written (at + bodyAt) (le idSize (getD (b .ids) row 0)) d₂
+      → d₄ ≡ written (at + receivedAt) (le counterSize (getD (b .received) row 0)) d₃
+      → d₅ ≡ written (at + sentAt) (le counterSize (getD (b .sent) row 0)) d₄
+      → d₆ ≡ written (at + keyAt) (take (getD (b .lengths) row 0) (drop (slotSize * row) (b .store))) d₅
+      → d₆ ≡ written at (rowRecord (rowAt b row)) d
+  row-written d d₁ d₂ d₃ d₄ d₅ d₆ at fits e₁ e₂ e₃ e₄ e₅ e₆ =
+      let r = rowAt b row in
+      let target = written at (rowRecord r) d in
+      let e₁′ = e₁ ∙ ap (λ (n : ℕ). written at (le lengthSize (keyAt - lengthSize + n)) d) (sym (key-long b row w t)) in
+      let w₀ : Writing d target d at (rowFields r []) =
+      record { long = refl; rest = ap (λ (x : List ℕ). written at x d) (sym (row-fields r []) ∙ append-nil (rowRecord r)) } in
+      let w₁ = field d target d d₁ at (at + kindAt) lengthSize _ _ refl (omega arith) w₀ e₁′ in
+      let w₂ = field d target d₁ d₂ (at + kindAt) (at + bodyAt) kindSize _ _ (omega arith) (omega arith) w₁ e₂ in
+      let w₃ = field d target d₂ d₃ (at + bodyAt) (at + receivedAt) idSize _ _ (omega arith) (omega arith) w₂ e₃ in
+      let w₄ = field d target d₃ d₄ (at + receivedAt) (at + sentAt) counterSize _ _ (omega arith) (omega arith) w₃ e₄ in
+      let w₅ = field d target d₄ d₅ (at + sentAt) (at + keyAt) counterSize _ _ (omega arith) (omega arith) w₄ e₅ in
+      e₆ ∙ ap (λ (x : List ℕ). written (at + keyAt) x d₅) (sym (append-nil _ ∙ key-is b row w t)) ∙ w₅ .rest
 
--- so are those of a book's row, its key copied from the store
-pub row-written : (b : Book) (row : ℕ) → Within b row → getD (b .lengths) row 0 ≤ slotSize → (d d₁ d₂ d₃ d₄ d₅ d₆ : List ℕ) (at : ℕ)
-    → d₁ ≡ storedAt d at (le lengthSize (keyAt - lengthSize + getD (b .lengths) row 0)) → d₂ ≡ storedAt d₁ (at + kindAt) (le kindSize rowKind)
-    → d₃ ≡ storedAt d₂ (at + bodyAt) (le idSize (getD (b .ids) row 0)) → d₄ ≡ storedAt d₃ (at + receivedAt) (le counterSize (getD (b .received) row 0))
-    → d₅ ≡ storedAt d₄ (at + sentAt) (le counterSize (getD (b .sent) row 0))
-    → d₆ ≡ storedAt d₅ (at + keyAt) (take (getD (b .lengths) row 0) (drop (slotSize * row) (b .store))) → d₆ ≡ storedAt d at (rowRecord (rowAt b row))
-row-written b row w t d d₁ d₂ d₃ d₄ d₅ d₆ at e₁ e₂ e₃ e₄ e₅ e₆ =
-    row-stored d d₁ d₂ d₃ d₄ d₅ d₆ at (rowAt b row) (keyAt - lengthSize + getD (b .lengths) row 0) (ap (λ (n : ℕ). keyAt - lengthSize + n) (sym (key-long b row w t))) e₁ e₂ e₃ e₄ e₅
-    (e₆ ∙ ap (storedAt d₅ (at + keyAt)) (sym (key-is b row w t)))
+-- ---- the rows
 
--- so are those of the close
-pub close-stored : (d d₁ d₂ d₃ : List ℕ) (at rows : ℕ) → d₁ ≡ storedAt d at (le lengthSize (closeSize - lengthSize)) → d₂ ≡ storedAt d₁ (at + kindAt) (le kindSize closeKind)
-    → d₃ ≡ storedAt d₂ (at + bodyAt) (le countSize rows) → d₃ ≡ storedAt d at (close rows)
-unfolding close recordOf
-close-stored d d₁ d₂ d₃ at rows e₁ e₂ e₃ =
-    let h = le lengthSize (closeSize - lengthSize) in
-    let k = le kindSize closeKind in
-    let f₂ = stored-then d d₁ d₂ h k at (at + kindAt) e₁ (simp le-length) e₂ in
-    let f₃ = stored-then d d₂ d₃ (h ++ k) (le countSize rows) at (at + bodyAt) f₂ (simp (length-append, le-length)) e₃ in
-    let l : closeSize - lengthSize ≡ kindSize + length (le countSize rows) = simp le-length in
-    f₃ ∙ ap (storedAt d at) (append-assoc h k (le countSize rows) ∙ ap (λ (m : ℕ). le lengthSize m ++ (k ++ le countSize rows)) l)
-
--- the rows before `row` are written, up to `at`; writing on from there gives the whole card
-unfoldable pub restOf : Book → ℕ → List ℕ
-restOf b row = rowRecords (rowsFrom b row (b .rows - row)) ++ close (b .rows)
-
+-- the rows before `row` are written, up to `at`; with what is left written from there on, the whole card is
 pub record Rowing (b : Book) (old new : List ℕ) (at row : ℕ) : Type 0 where
   pub within : row ≤ b .rows
-  pub long : length new ≡ length old
-  pub room : at + length (restOf b row) ≤ length old
-  pub rest : storedAt new at (restOf b row) ≡ storedAt old 0 (cardOf (rowsOf b))
+  pub room : at + length (restOf b row (b .rows - row)) ≤ length old
+  pub writing : Writing old (written 0 (cardOf (rowsOf b)) old) new at (restOf b row (b .rows - row))
 
 module _ (b : Book) (s : Sound b) (old : List ℕ) where
+  abbrev target : List ℕ
+  target = written 0 (cardOf (rowsOf b)) old
+
   pub rowing-start : length (cardOf (rowsOf b)) ≤ length old → Rowing b old old 0 0
-  unfolding restOf cardOf rowsOf
   rowing-start h =
-      let e = rows-length b 0 (b .rows) in
-      let z : b .rows - 0 ≡ b .rows = omega arith in
-      let q : rowRecords (rowsFrom b 0 (b .rows - 0)) ++ close (b .rows) ≡ rowRecords (rowsFrom b 0 (b .rows)) ++ close (length (rowsFrom b 0 (b .rows))) =
-      ap₂ (λ (n m : ℕ). rowRecords (rowsFrom b 0 n) ++ close m) z (sym e) in
+      let z : b .rows ≡ b .rows - 0 = omega arith in
+      let q : cardOf (rowsOf b) ≡ restOf b 0 (b .rows - 0) = rest-all b ∙ ap (restOf b 0) z in
       let l = ap length q in
-      record { within = omega arith; long = refl; room = omega arith; rest = ap (storedAt old 0) q }
+      record { within = omega arith; room = omega arith; writing = record { long = refl; rest = ap (λ (x : List ℕ). written 0 x old) (sym q) } }
 
   module _ (new : List ℕ) (at row : ℕ) (w : Rowing b old new at row) where
     module _ (h : row < b .rows) where
-      next : restOf b row ≡ rowRecord (rowAt b row) ++ restOf b (row + 1)
-      unfolding restOf rowsFrom rowRecords
+      abbrev more : List ℕ
+      more = restOf b (row + 1) (b .rows - (row + 1))
+
+      next : restOf b row (b .rows - row) ≡ rowRecord (rowAt b row) ++ more
       next =
           let e : b .rows - row ≡ suc (b .rows - (row + 1)) = omega arith in
           let f : suc row ≡ row + 1 = omega arith in
-          ap (λ (n : ℕ). rowRecords (rowsFrom b row n) ++ close (b .rows)) e
-          ∙ append-assoc (rowRecord (rowAt b row)) (rowRecords (rowsFrom b (suc row) (b .rows - (row + 1)))) (close (b .rows))
-          ∙ ap (λ (n : ℕ). rowRecord (rowAt b row) ++ (rowRecords (rowsFrom b n (b .rows - (row + 1))) ++ close (b .rows))) f
+          ap (restOf b row) e ∙ rest-next b row (b .rows - (row + 1))
+          ∙ ap (λ (k : ℕ). rowRecord (rowAt b row) ++ restOf b k (b .rows - (row + 1))) f
 
-      next-length : length (restOf b row) ≡ keyAt + getD (b .lengths) row 0 + length (restOf b (row + 1))
-      next-length = ap length next ∙ length-append (rowRecord (rowAt b row)) (restOf b (row + 1)) ∙ ap (λ (n : ℕ). n + length (restOf b (row + 1))) (row-length b s row h)
+      next-length : length (restOf b row (b .rows - row)) ≡ keyAt + getD (b .lengths) row 0 + length more
+      next-length =
+          ap length next ∙ length-append (rowRecord (rowAt b row)) more ∙ ap (λ (n : ℕ). n + length more) (row-length b s row h)
 
       -- there is room for the next record
       pub rowing-room : at + (keyAt + getD (b .lengths) row 0) ≤ length new
       rowing-room =
           let l = next-length in
           let r = w .room in
-          let q = w .long in
+          let q = w .writing .long in
           omega arith
 
-      pub rowing-turn : (new′ : List ℕ) (n : ℕ) → n ≡ keyAt + getD (b .lengths) row 0 → new′ ≡ storedAt new at (rowRecord (rowAt b row)) → Rowing b old new′ (at + n) (row + 1)
+      pub rowing-turn : (new′ : List ℕ) (n : ℕ) → n ≡ keyAt + getD (b .lengths) row 0 → new′ ≡ written at (rowRecord (rowAt b row)) new
+          → Rowing b old new′ (at + n) (row + 1)
       rowing-turn new′ n en e =
           let l = next-length in
           let r = w .room in
+          let m = row-length b s row h in
           record {
             within = omega arith;
-            long = ap length e ∙ stored-length new at (rowRecord (rowAt b row)) ∙ w .long;
             room = omega arith;
-            rest = ap₂ (λ (x : List ℕ) (m : ℕ). storedAt x (at + m) (restOf b (row + 1))) e (en ∙ sym (row-length b s row h))
-                ∙ sym (stored-append (rowRecord (rowAt b row)) (restOf b (row + 1)) new at) ∙ ap (storedAt new at) (sym next) ∙ w .rest;
+            writing = writing-run old target new at (rowRecord (rowAt b row)) more (at + n) (omega arith) (omega arith) (rw next at (w .writing)) new′ e;
           }
 
     module _ (h : b .rows ≤ row) where
-      last : restOf b row ≡ close (b .rows)
-      unfolding restOf rowsFrom rowRecords
-      last = let e : b .rows - row ≡ 0 = omega arith in ap (λ (n : ℕ). rowRecords (rowsFrom b row n) ++ close (b .rows)) e
+      last : restOf b row (b .rows - row) ≡ close (b .rows)
+      last = let e : b .rows - row ≡ 0 = omega arith in ap (restOf b row) e ∙ rest-last b row
 
       -- there is room for the close
       pub close-room : at + closeSize ≤ length new
       close-room =
           let l = ap length last ∙ close-size (b .rows) in
           let r = w .room in
-          let q = w .long in
+          let q = w .writing .long in
           omega arith
 
-      pub rowing-end : (new′ : List ℕ) → new′ ≡ storedAt new at (close (b .rows)) → new′ ≡ storedAt old 0 (cardOf (rowsOf b))
-      rowing-end new′ e = e ∙ ap (storedAt new at) (sym last) ∙ w .rest
+      -- its fields, written one after another, end the card
+      pub rowing-end : (d₁ d₂ d₃ : List ℕ)
+          → d₁ ≡ written at (le lengthSize (closeSize - lengthSize)) new
+          → d₂ ≡ written (at + kindAt) (le kindSize closeKind) d₁
+          → d₃ ≡ written (at + bodyAt) (le countSize (b .rows)) d₂
+          → d₃ ≡ target
+      rowing-end d₁ d₂ d₃ e₁ e₂ e₃ =
+          let l = close-room in
+          let q = w .writing .long in
+          let e : restOf b row (b .rows - row) ≡ closeFields (b .rows) [] = last ∙ sym (append-nil (close (b .rows))) ∙ close-fields (b .rows) [] in
+          let w₁ = field old target new d₁ at (at + kindAt) lengthSize _ _ refl (omega arith) (rw e at (w .writing)) e₁ in
+          let w₂ = field old target d₁ d₂ (at + kindAt) (at + bodyAt) kindSize _ _ (omega arith) (omega arith) w₁ e₂ in
+          let w₃ = field old target d₂ d₃ (at + bodyAt) (at + closeSize) countSize _ _ (omega arith) (omega arith) w₂ e₃ in
+          writing-end old target d₃ (at + closeSize) w₃
 
 -- a row in use lies within the lent lists, whatever row count they are lent with
-pub within-any : (ids lengths store received sent : List ℕ) (rows any : ℕ) → Sound (bookOf ids lengths store received sent rows) → (k : ℕ) → k < rows → Within (bookOf ids lengths store received sent any) k
-within-any ids lengths store received sent rows any s k h =
-    let w = rows-within (bookOf ids lengths store received sent rows) s k h in
+pub within-any : (b : Book) → Sound b → (k : ℕ) → k < b .rows → Within (bookOf (b .ids) (b .lengths) (b .store) (b .received) (b .sent) 0) k
+within-any b s k h =
+    let w = rows-within b s k h in
     record { in-ids = w .in-ids; in-lengths = w .in-lengths; in-store = w .in-store; in-received = w .in-received; in-sent = w .in-sent }
+
+-- ---- the ends of `card_write`: the answer, and the room afterwards
 
 -- what `is_sound` told
 pub told-sound : (b : Book) (t : Bool) → t ≡ sound b → not t ≡ false → Sound b
@@ -217,7 +231,6 @@ rows-in b s =
     let f = s .rows-fit in
     (omega arith, s .rows-few)
 
--- the ends of `card_write`: the answer, and the room afterwards
 module _ (b : Book) (room : List ℕ) where
   abbrev Ends : WriteAnswer → List ℕ → Type 0
   Ends answer after = (answer ≡ writeOf b (length room)) × (after ≡ roomAfter b room)
@@ -232,19 +245,15 @@ module _ (b : Book) (room : List ℕ) where
     write-unsound h = ended (Refused UnsoundBook) (rw (sym e ∙ not-true t h))
 
     module _ (h : not t ≡ false) (size : ℕ) (z : size ≡ sizeTo (b .lengths) (b .rows)) where
-      sound-book : Sound b
-      sound-book = told-sound b t e h
-
       pub size-is : length (cardOf (rowsOf b)) ≡ size
-      size-is = card-size b sound-book ∙ sym z
+      size-is = card-size b (told-sound b t e h) ∙ sym z
 
       pub write-no-room : length room < size → Ends (Refused NoRoomForCard) room
       unfolding writeOf
       write-no-room l = ended (Refused NoRoomForCard) (rw (sym e ∙ not-false t h, size-is, lt-ltb (length room) size l))
 
-      pub write-done : size ≤ length room → (after : List ℕ) → after ≡ storedAt room 0 (cardOf (rowsOf b)) → Ends (Size size) after
+      pub write-done : size ≤ length room → (after : List ℕ) → after ≡ written 0 (cardOf (rowsOf b)) room → Ends (Size size) after
       unfolding writeOf
       write-done l after f =
           let d = ended (Size size) (rw (sym e ∙ not-false t h, size-is, le-ltb (length room) size l)) in
-          let q = size-is in
-          (d .0, f ∙ stored-front room (cardOf (rowsOf b)) (omega arith) ∙ ap (λ (n : ℕ). cardOf (rowsOf b) ++ drop n room) q ∙ d .1)
+          (d .0, f ∙ written-first (cardOf (rowsOf b)) room ∙ ap (λ (n : ℕ). cardOf (rowsOf b) ++ drop n room) size-is ∙ d .1)

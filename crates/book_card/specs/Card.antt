@@ -1,33 +1,12 @@
--- The card: the bytes of a book's rows, and which rows have a card (document 01, 'The card').
+-- The card: the bytes of a book's rows, and which rows have a card (docs/RULES.md, 'The card').
 -- A byte string is a card exactly when it is `cardOf` of rows that are `InOrder`; specs/Laws.antt states that the reader agrees.
 use Prim.Native.Nat.{ℕ, _+_, _^_, _≤_, _<_}
 use mathlib.Core.List.{List, [], _∷_, _++_}
 use lib.ListN.{length, getD}
+use Rattle.octets.specs.Bytes.{Bytes}
+use Rattle.octets.specs.Numbers.{le}
 use Rattle.key_book.specs.Limits.{rowsMost, slotSize}
-use Rattle.book_card.specs.Numbers.{le, Bytes}
-
--- the sizes of a card's fields: a record's length and kind, a row's id and counters, the close's number of rows
-abbrev pub lengthSize : ℕ
-lengthSize = 2
-
-abbrev pub kindSize : ℕ
-kindSize = 2
-
-abbrev pub idSize : ℕ
-idSize = 4
-
-abbrev pub counterSize : ℕ
-counterSize = 8
-
-abbrev pub countSize : ℕ
-countSize = 2
-
--- the kinds of record
-abbrev pub rowKind : ℕ
-rowKind = 1
-
-abbrev pub closeKind : ℕ
-closeKind = 2
+use Rattle.book_card.specs.Layout.{lengthSize, kindSize, idSize, counterSize, countSize, rowKind, closeKind}
 
 -- a row as a card holds it
 pub record Row : Type 0 where

@@ -1,11 +1,11 @@
--- What is proved of the reader, each as a closed statement: document 01, 'The card'. The proofs are in proofs/Says.antt.
+-- What is proved of the reader, each as a closed statement: docs/RULES.md, 'The card'. The proofs are in proofs/Says.antt.
 use mathlib.Core.Path.{_≡_}
 use mathlib.Core.Logic.{_↔_}
 use mathlib.Core.Option.{none, some}
 use mathlib.Core.List.{List, _++_}
 use lib.ListN.{length, take}
 use Prim.Native.Nat.{ℕ}
-use Rattle.book_card.specs.Numbers.{Bytes}
+use Rattle.octets.specs.Bytes.{Bytes}
 use Rattle.book_card.specs.Card.{Row, rowRecords, InOrder, cardOf}
 use Rattle.book_card.specs.Reader.{closed, FrontRows, rowsInFront, readCard}
 

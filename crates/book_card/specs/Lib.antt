@@ -1,5 +1,4 @@
-pub mod Stores
-pub mod Numbers
+pub mod Layout
 pub mod Card
 pub mod Reader
 pub mod Reading

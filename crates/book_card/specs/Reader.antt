@@ -6,52 +6,34 @@ use Prim.Native.Nat.{ℕ, zero, suc, _+_, _-_}
 use mathlib.Core.List.{List, [], _∷_}
 use lib.Dec.{ltb, eqb}
 use lib.ListN.{length, take, drop}
+use Rattle.octets.specs.Numbers.{littleAt}
 use Rattle.key_book.specs.Limits.{rowsMost, slotSize}
-use Rattle.book_card.specs.Numbers.{numberAt}
-use Rattle.book_card.specs.Card.{lengthSize, kindSize, idSize, counterSize, countSize, rowKind, closeKind, Row}
+use Rattle.book_card.specs.Layout.{lengthSize, kindSize, idSize, counterSize, countSize, rowKind, closeKind}
+use Rattle.book_card.specs.Layout.{kindAt, bodyAt, receivedAt, sentAt, keyAt, closeSize}
+use Rattle.book_card.specs.Card.{Row}
 use Rattle.book_card.specs.declared.Front.{Front}
 use Rattle.book_card.specs.declared.Front.the-variants.{Broken, Row as RowFront, Close}
 use Rattle.book_card.specs.declared.Counted.{Counted}
 use Rattle.book_card.specs.declared.Counted.the-variants.{Malformed, Rows as RowCount}
 
--- offsets in a record: the kind, and then a row's fields, or the close's number of rows
-abbrev pub kindAt : ℕ
-kindAt = lengthSize
-
-abbrev pub bodyAt : ℕ
-bodyAt = kindAt + kindSize
-
-abbrev pub receivedAt : ℕ
-receivedAt = bodyAt + idSize
-
-abbrev pub sentAt : ℕ
-sentAt = receivedAt + counterSize
-
-abbrev pub keyAt : ℕ
-keyAt = sentAt + counterSize
-
--- the whole close
-abbrev pub closeSize : ℕ
-closeSize = bodyAt + countSize
-
 -- what stands in front, by its kind and its length field
 abbrev pub frontBy : List ℕ → ℕ → ℕ → Front
 frontBy s size kind =
-    cond (eqb kind closeKind) (cond (eqb size (closeSize - lengthSize)) (Close (numberAt s bodyAt countSize)) Broken)
+    cond (eqb kind closeKind) (cond (eqb size (closeSize - lengthSize)) (Close (littleAt s bodyAt countSize)) Broken)
     (cond (eqb kind rowKind)
     (cond (ltb size (keyAt - lengthSize + 1)) Broken
-    (cond (ltb (keyAt - lengthSize + slotSize) size) Broken (RowFront (numberAt s bodyAt idSize) (size - (keyAt - lengthSize))))) Broken)
+    (cond (ltb (keyAt - lengthSize + slotSize) size) Broken (RowFront (littleAt s bodyAt idSize) (size - (keyAt - lengthSize))))) Broken)
 
 -- the record in front: broken where its length field or what it counts passes the end, or its length is not one of its kind
 unfoldable pub frontOf : List ℕ → Front
 frontOf s =
     cond (ltb (length s) bodyAt) Broken
-    (cond (ltb (length s - lengthSize) (numberAt s 0 lengthSize)) Broken (frontBy s (numberAt s 0 lengthSize) (numberAt s kindAt kindSize)))
+    (cond (ltb (length s - lengthSize) (littleAt s 0 lengthSize)) Broken (frontBy s (littleAt s 0 lengthSize) (littleAt s kindAt kindSize)))
 
 -- the row in front, whose key has so many bytes
 abbrev pub rowFront : List ℕ → ℕ → Row
 rowFront s size =
-    record { id = numberAt s bodyAt idSize; received = numberAt s receivedAt counterSize; sent = numberAt s sentAt counterSize; key = take size (drop keyAt s) }
+    record { id = littleAt s bodyAt idSize; received = littleAt s receivedAt counterSize; sent = littleAt s sentAt counterSize; key = take size (drop keyAt s) }
 
 -- how the rows in front of bytes end: the close follows them, numbers them and is last; or anything else stands there
 pub data CardEnd : Type 0 where

@@ -1,10 +1,11 @@
--- Reading a card into a lent book: the answer, and every lent list afterwards (document 01, 'The card').
+-- Reading a card into a lent book: the answer, and every lent list afterwards (docs/RULES.md, 'The card').
 use mathlib.Core.Bool.{cond}
 use mathlib.Core.Option.{Option, none, some, Option·getD}
 use mathlib.Core.List.{List, [], _∷_, _++_, map}
-use Prim.Native.Nat.{ℕ, _-_}
+use Prim.Native.Nat.{ℕ, _*_}
 use lib.Dec.{ltb}
-use lib.ListN.{length, drop, replicate}
+use lib.ListN.{length, set}
+use Rattle.octets.specs.Bytes.{written, filled}
 use Rattle.refusal.specs.Number.{numberOf, done}
 use Rattle.refusal.specs.declared.Refusal.the-variants.{UnsoundBook, MalformedCard, NoRoomForRows}
 use Rattle.key_book.specs.Limits.{slotSize}
@@ -14,27 +15,31 @@ use Rattle.book_card.specs.Reader.{readCard}
 use Rattle.book_card.specs.declared.ReadAnswer.{ReadAnswer}
 use Rattle.book_card.specs.declared.ReadAnswer.the-variants.{Refused, Rows}
 
--- a row's slot in the key store: its key, and zeros after it
-unfoldable pub slotOf : List ℕ → List ℕ
-slotOf key = key ++ replicate (slotSize - length key) 0
-
+-- the slots of rows in the key store: each key, with zeros after it
 unfoldable pub slotsOf : List Row → List ℕ
 slotsOf [] = []
-slotsOf (r ∷ rows) = slotOf (r .key) ++ slotsOf rows
+slotsOf (r ∷ rows) = filled slotSize (r .key) ++ slotsOf rows
 
--- a list whose first elements are these; the further ones unchanged
-unfoldable pub laid : List ℕ → List ℕ → List ℕ
-laid xs old = xs ++ drop (length xs) old
+-- a book with one row set, and none in use
+unfoldable pub withRowSet : Book → ℕ → Row → Book
+withRowSet b k r =
+    bookOf
+    (set (b .ids) k (r .id))
+    (set (b .lengths) k (length (r .key)))
+    (written (slotSize * k) (filled slotSize (r .key)) (b .store))
+    (set (b .received) k (r .received))
+    (set (b .sent) k (r .sent))
+    0
 
 -- a book with these rows, in use; further rows unchanged
 unfoldable pub loaded : Book → List Row → Book
 loaded b rows =
     bookOf
-    (laid (map (λ (r : Row). r .id) rows) (b .ids))
-    (laid (map (λ (r : Row). length (r .key)) rows) (b .lengths))
-    (laid (slotsOf rows) (b .store))
-    (laid (map (λ (r : Row). r .received) rows) (b .received))
-    (laid (map (λ (r : Row). r .sent) rows) (b .sent))
+    (written 0 (map (λ (r : Row). r .id) rows) (b .ids))
+    (written 0 (map (λ (r : Row). length (r .key)) rows) (b .lengths))
+    (written 0 (slotsOf rows) (b .store))
+    (written 0 (map (λ (r : Row). r .received) rows) (b .received))
+    (written 0 (map (λ (r : Row). r .sent) rows) (b .sent))
     (length rows)
 
 -- the answer by what the card holds, with room for so many rows: 15, then 17
@@ -63,7 +68,7 @@ abbrev pub rowsGiven : ReadAnswer → ℕ
 rowsGiven (Refused x) = 0
 rowsGiven (Rows n) = n
 
--- the paper's number of an answer
+-- the rules' number of an answer
 abbrev pub readNumber : ReadAnswer → ℕ
 readNumber (Refused x) = numberOf x
 readNumber (Rows n) = done

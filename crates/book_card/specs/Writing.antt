@@ -1,4 +1,4 @@
--- Writing a book's card to a lent room: the answer, and every byte of the room afterwards (document 01, 'The card').
+-- Writing a book's card to a lent room: the answer, and every byte of the room afterwards (docs/RULES.md, 'The card').
 use mathlib.Core.Bool.{cond}
 use mathlib.Core.List.{List, [], _∷_, _++_}
 use Prim.Native.Nat.{ℕ, zero, suc, _+_}
@@ -8,7 +8,7 @@ use Rattle.refusal.specs.Number.{numberOf, done}
 use Rattle.refusal.specs.declared.Refusal.the-variants.{UnsoundBook, NoRoomForCard}
 use Rattle.key_book.specs.Book.{Book, sound, keyOf}
 use Rattle.book_card.specs.Card.{Row, cardOf}
-use Rattle.book_card.specs.Reader.{keyAt, closeSize}
+use Rattle.book_card.specs.Layout.{keyAt, closeSize}
 use Rattle.book_card.specs.declared.WriteAnswer.{WriteAnswer}
 use Rattle.book_card.specs.declared.WriteAnswer.the-variants.{Refused, Size}
 
@@ -43,7 +43,7 @@ roomBy b room (Size n) = cardOf (rowsOf b) ++ drop n room
 unfoldable pub roomAfter : Book → List ℕ → List ℕ
 roomAfter b room = roomBy b room (writeOf b (length room))
 
--- the paper's number of an answer
+-- the rules' number of an answer
 abbrev pub writeNumber : WriteAnswer → ℕ
 writeNumber (Refused x) = numberOf x
 writeNumber (Size n) = done

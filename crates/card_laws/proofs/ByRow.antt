@@ -1,71 +1,59 @@
--- Reading a card row by row (specs/Laws.antt, `ReadSays`): each list of the book read is the card's elements laid over the old ones, and a row's slot
--- stands in the slots laid over the key store.
+-- Reading a card row by row (specs/Laws.antt, `ReadSays`): each list of the book read is the card's elements written over the old ones, and a row's
+-- slot stands in the slots written over the key store.
 use mathlib.Core.Path.{_≡_, refl, sym, ap, _∙_}
 use mathlib.Core.Option.{some}
 use mathlib.Core.List.{List, _++_, map}
 use Prim.Native.Nat.{ℕ, suc, _+_, _-_, _*_, _≤_, _<_}
 use native.Mathlib.Omega.{arith}
-use lib.ListN.{length, getD, drop, replicate, length-append, length-drop, length-map, List·getD-append, List·getD-map, getD-replicate}
+use lib.ListN.{length, getD, drop, length-map, List·getD-append, List·getD-map}
 use lib.Seq.{getD-drop, getD-append-add}
 use Rattle.key_book.specs.Limits.{slotSize}
 use Rattle.key_book.specs.Book.{Book, Sized}
 use Rattle.book_card.specs.Card.{Row, cardOf, noRow, InOrder}
 use Rattle.book_card.specs.Reader.{readCard}
-use Rattle.book_card.specs.Reading.{slotOf, slotsOf, laid, loaded}
+use Rattle.book_card.specs.Reading.{slotsOf, loaded}
 use Rattle.card_laws.specs.Laws.{RowSet, LeftFrom, RowsLeft, RowsRead, ReadSays}
 use Rattle.book_card.proofs.Says.{card-says}
-use Rattle.book_card.proofs.Loads.{Fit, slot-length, slots-length, slots-at}
+use Rattle.book_card.proofs.Slots.{Fit, slots-length, slots-at}
+use Rattle.octets.specs.Bytes.{written, filled}
+use Rattle.octets.proofs.Written.{length-written, written-first, length-filled, filled-in, filled-behind}
 use Rattle.card_laws.proofs.Largest.{card-bytes}
 use Rattle.card_laws.proofs.Answers.{given, gives, gives-book}
 
-laid-length : (xs old : List ℕ) → length xs ≤ length old → length (laid xs old) ≡ length old
-unfolding laid
-laid-length xs old h = length-append xs (drop (length xs) old) ∙ ap (λ (n : ℕ). length xs + n) (length-drop (length xs) old) ∙ omega arith
+-- elements written at the front of a list, and the old ones behind them
+front-new : (new old : List ℕ) (k : ℕ) → k < length new → getD (written 0 new old) k 0 ≡ getD new k 0
+front-new new old k h = ap (λ (l : List ℕ). getD l k 0) (written-first new old) ∙ List·getD-append new (drop (length new) old) 0 k h
 
-laid-at : (f : Row → ℕ) → f noRow ≡ 0 → (rows : List Row) (old : List ℕ) (k : ℕ) → k < length rows
-    → getD (laid (map f rows) old) k 0 ≡ f (getD rows k noRow)
-unfolding laid
-laid-at f z rows old k h =
-    List·getD-append (map f rows) (drop (length (map f rows)) old) 0 k (rw (length-map rows f) h)
-    ∙ ap (getD (map f rows) k) (sym z)
-    ∙ List·getD-map f rows k noRow
-
--- an element past those laid over a list is the old one
-laid-left : (xs old : List ℕ) (n : ℕ) → length xs ≡ n → length xs ≤ length old → LeftFrom n old (laid xs old)
-unfolding laid
-laid-left xs old n e h =
+front-left : (new old : List ℕ) (n : ℕ) → length new ≡ n → length new ≤ length old → LeftFrom n old (written 0 new old)
+front-left new old n e h =
     record {
       same = λ k l.
-          let d : length xs + (k - length xs) ≡ k = omega arith in
-          ap (λ (m : ℕ). getD (xs ++ drop (length xs) old) m 0) (sym d) ∙ getD-append-add xs (drop (length xs) old) (k - length xs) 0
-          ∙ getD-drop (length xs) old (k - length xs) 0 ∙ ap (λ (m : ℕ). getD old m 0) d;
-      long = laid-length xs old h;
+          let d : length new + (k - length new) ≡ k = omega arith in
+          ap (λ (l : List ℕ). getD l k 0) (written-first new old)
+          ∙ ap (λ (m : ℕ). getD (new ++ drop (length new) old) m 0) (sym d)
+          ∙ getD-append-add new (drop (length new) old) (k - length new) 0
+          ∙ getD-drop (length new) old (k - length new) 0
+          ∙ ap (λ (m : ℕ). getD old m 0) d;
+      long = length-written 0 new old (omega arith);
     }
 
--- byte i of row k's slot, in the slots laid over a key store
+-- a field of each row, written so
+field-at : (f : Row → ℕ) → f noRow ≡ 0 → (rows : List Row) (old : List ℕ) (k : ℕ) → k < length rows
+    → getD (written 0 (map f rows) old) k 0 ≡ f (getD rows k noRow)
+field-at f z rows old k h =
+    front-new (map f rows) old k (rw (length-map rows f) h) ∙ ap (getD (map f rows) k) (sym z) ∙ List·getD-map f rows k noRow
+
+-- byte i of row k's slot, in the slots written over a key store
 slot-at : (rows : List Row) (old : List ℕ) (k i : ℕ) → Fit rows → k < length rows → i < slotSize
-    → getD (laid (slotsOf rows) old) (slotSize * k + i) 0 ≡ getD (slotOf (getD rows k noRow .key)) i 0
-unfolding laid
+    → getD (written 0 (slotsOf rows) old) (slotSize * k + i) 0 ≡ getD (filled slotSize (getD rows k noRow .key)) i 0
 slot-at rows old k i f h l =
-    let slot = slotOf (getD rows k noRow .key) in
-    let z = slot-length (getD rows k noRow .key) (f k h) in
+    let slot = filled slotSize (getD rows k noRow .key) in
+    let z = length-filled slotSize (getD rows k noRow .key) (f k h) in
     let s = slots-length rows f in
-    List·getD-append (slotsOf rows) (drop (length (slotsOf rows)) old) 0 (slotSize * k + i) (omega arith)
-    ∙ sym (getD-drop (slotSize * k) (slotsOf rows) i 0) ∙ ap (λ (x : List ℕ). getD x i 0) (slots-at rows k f h)
+    front-new (slotsOf rows) old (slotSize * k + i) (omega arith)
+    ∙ sym (getD-drop (slotSize * k) (slotsOf rows) i 0)
+    ∙ ap (λ (x : List ℕ). getD x i 0) (slots-at rows k f h)
     ∙ List·getD-append slot (drop (slotSize * suc k) (slotsOf rows)) 0 i (omega arith)
-
--- a slot's bytes: the key, and zeros after it
-slot-key : (key : List ℕ) (i : ℕ) → i < length key → getD (slotOf key) i 0 ≡ getD key i 0
-unfolding slotOf
-slot-key key i h = List·getD-append key (replicate (slotSize - length key) 0) 0 i h
-
-slot-zeros : (key : List ℕ) (i : ℕ) → length key ≤ i → i < slotSize → getD (slotOf key) i 0 ≡ 0
-unfolding slotOf
-slot-zeros key i h l =
-    let d : length key + (i - length key) ≡ i = omega arith in
-    ap (λ (m : ℕ). getD (key ++ replicate (slotSize - length key) 0) m 0) (sym d)
-    ∙ getD-append-add key (replicate (slotSize - length key) 0) (i - length key) 0
-    ∙ getD-replicate (slotSize - length key) (i - length key) 0 0 (omega arith)
 
 module _ (b : Book) (z : Sized b) (rows : List Row) (o : InOrder rows) (room : length rows ≤ length (b .ids)) where
   fit : Fit rows
@@ -77,24 +65,24 @@ module _ (b : Book) (z : Sized b) (rows : List Row) (o : InOrder rows) (room : l
       let key = getD rows k noRow .key in
       let t = fit k h in
       record {
-        id = laid-at (λ (r : Row). r .id) refl rows (b .ids) k h;
-        key-size = laid-at (λ (r : Row). length (r .key)) refl rows (b .lengths) k h;
-        received = laid-at (λ (r : Row). r .received) refl rows (b .received) k h;
-        sent = laid-at (λ (r : Row). r .sent) refl rows (b .sent) k h;
-        key = λ i l. slot-at rows (b .store) k i fit h (omega arith) ∙ slot-key key i l;
-        zeros = λ i l m. slot-at rows (b .store) k i fit h m ∙ slot-zeros key i l m;
+        id = field-at (λ (r : Row). r .id) refl rows (b .ids) k h;
+        key-size = field-at (λ (r : Row). length (r .key)) refl rows (b .lengths) k h;
+        received = field-at (λ (r : Row). r .received) refl rows (b .received) k h;
+        sent = field-at (λ (r : Row). r .sent) refl rows (b .sent) k h;
+        key = λ i l. slot-at rows (b .store) k i fit h (omega arith) ∙ filled-in slotSize key t i l;
+        zeros = λ i l m. slot-at rows (b .store) k i fit h m ∙ filled-behind slotSize key t i l m;
       }
 
   rows-left : RowsLeft (length rows) b (loaded b rows)
   unfolding loaded
   rows-left =
-      let one : (f : Row → ℕ) (old : List ℕ) → length old ≡ length (b .ids) → LeftFrom (length rows) old (laid (map f rows) old) =
-      λ f old e. let m = length-map rows f in laid-left (map f rows) old (length rows) m (omega arith) in
+      let one : (f : Row → ℕ) (old : List ℕ) → length old ≡ length (b .ids) → LeftFrom (length rows) old (written 0 (map f rows) old) =
+      λ f old e. let m = length-map rows f in front-left (map f rows) old (length rows) m (omega arith) in
       let s = slots-length rows fit in
       record {
         ids = one (λ (r : Row). r .id) (b .ids) refl;
         lengths = one (λ (r : Row). length (r .key)) (b .lengths) (z .lengths-agree);
-        store = laid-left (slotsOf rows) (b .store) (slotSize * length rows) s (omega (arith, z .store-agrees));
+        store = front-left (slotsOf rows) (b .store) (slotSize * length rows) s (omega (arith, z .store-agrees));
         received = one (λ (r : Row). r .received) (b .received) (z .received-agree);
         sent = one (λ (r : Row). r .sent) (b .sent) (z .sent-agree);
       }

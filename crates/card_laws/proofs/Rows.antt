@@ -4,14 +4,14 @@ use Prim.Native.Nat.{ℕ, zero, suc, _+_, _*_, _<_}
 use native.Mathlib.Nat.{add-zero, zero-add}
 use native.Mathlib.Omega.{arith}
 use mathlib.Core.List.{List}
-use lib.ListN.{length, getD, drop}
+use lib.ListN.{length, getD}
 use lib.Seq.{ext-getD}
 use Rattle.key_book.specs.Limits.{slotSize}
 use Rattle.key_book.specs.Book.{Book, Lent, Sound}
 use Rattle.key_book.proofs.Says.{rows-within, key-says, key-is}
 use Rattle.book_card.specs.Card.{Row, noRow, RowFits, InOrder}
 use Rattle.book_card.specs.Writing.{rowAt, rowsFrom, rowsOf}
-use Rattle.book_card.proofs.Little.{bytes-take, bytes-drop}
+use Rattle.octets.proofs.Elements.{bytes-of, bytes-take, bytes-drop}
 use Rattle.book_card.proofs.Writes.{rows-length}
 
 rows-at : (b : Book) (k n i : ℕ) → i < n → getD (rowsFrom b k n) i noRow ≡ rowAt b (k + i)
@@ -46,7 +46,7 @@ module _ (b : Book) where
       row-fits : (k : ℕ) → k < b .rows → RowFits (rowAt b k)
       row-fits k h =
           let q = key-says b s k h in
-          let bytes = bytes-take (drop (slotSize * k) (b .store)) (bytes-drop (b .store) (l .byte-fits) (slotSize * k)) (getD (b .lengths) k 0) in
+          let bytes = bytes-take (getD (b .lengths) k 0) _ (bytes-drop (slotSize * k) (b .store) (bytes-of (b .store) (l .byte-fits))) in
           record {
             id-fits = l .id-fits k;
             received-fits = l .received-fits k;

@@ -7,9 +7,9 @@ use lib.ListN.{length, getD, take, drop, replicate}
 use Rattle.key_book.specs.Limits.{rowsMost, slotSize}
 use Rattle.key_book.specs.Book.{Book, Lent, Sized, Sound}
 use Rattle.key_book.specs.Laws.{SameKey}
-use Rattle.book_card.specs.Numbers.{Bytes}
+use Rattle.octets.specs.Bytes.{Bytes}
 use Rattle.book_card.specs.Card.{Row, noRow, InOrder, cardOf}
-use Rattle.book_card.specs.Reader.{keyAt, closeSize}
+use Rattle.book_card.specs.Layout.{keyAt, closeSize}
 use Rattle.book_card.specs.Reading.{readOf, readBook}
 use Rattle.book_card.specs.Writing.{rowsOf, writeOf, roomAfter}
 use Rattle.book_card.specs.declared.ReadAnswer.the-variants.{Rows}

@@ -48,7 +48,6 @@ use Rattle.book_card.specs.declared.ReadAnswer.the-variants.{Refused as ReadRef
 use Rattle.book_card.specs.declared.WriteAnswer.{WriteAnswer}
 use Rattle.book_card.specs.declared.WriteAnswer.the-variants.{Refused as WriteRefused, Size}
 use Rattle.book_card.specs.Card.{Row, InOrder, cardOf}
-use Rattle.book_card.specs.Numbers.{Bytes as CardBytes}
 use Rattle.book_card.specs.Reader.{readCard}
 use Rattle.book_card.specs.Reading.{readAs, readOf, readBy, readBook, readNumber}
 use Rattle.book_card.specs.Writing.{rowsOf, writeOf, roomBy, roomAfter, writeNumber}
@@ -366,7 +365,7 @@ module _ (key text : List ℕ) where
 
 -- ---- cards
 
-module _ (b : Book) (card : List ℕ) (bytes : CardBytes card) where
+module _ (b : Book) (card : List ℕ) (bytes : Bytes card) where
   read-below : (n : ℕ) → (1 < n → Sized b) → (15 < n → ((rows : List Row) → InOrder rows → card ≡ cardOf rows → ⊥) → ⊥)
       → (17 < n → (rows : List Row) → InOrder rows → card ≡ cardOf rows → length (b .ids) < length rows → ⊥) → NothingBelow (ReadApplies b card) n
   read-below n s f g q l (sizes-disagree h) = h (s l)

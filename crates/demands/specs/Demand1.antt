@@ -24,7 +24,6 @@ use Rattle.delayed_auth.specs.Check.{checkOf, receivedAfter, verdictNumber}
 use Rattle.delayed_auth.specs.Key.{keyedOf, keyNumber, keyBytes, keyOffset}
 use Rattle.delayed_auth.specs.Seal.{counterMost, sealOf, messageAfter, sentAfter, outcomeNumber}
 use Rattle.book_card.specs.Card.{Row, InOrder, cardOf}
-use Rattle.book_card.specs.Numbers.{Bytes as CardBytes}
 use Rattle.book_card.specs.Reading.{readOf, readBook, readNumber}
 use Rattle.book_card.specs.Writing.{rowsOf, writeOf, roomAfter, writeNumber}
 
@@ -98,7 +97,7 @@ pub record Demand1 : Type 0 where
   pub digest-zeros : (message : List ℕ) → md5Of message .number ≢ done → md5Of message .digest ≡ noDigest
   pub hmac-mac : (key text : List ℕ) → Lowest (HmacApplies key text) (hmacOf key text .number)
   pub hmac-zeros : (key text : List ℕ) → hmacOf key text .number ≢ done → hmacOf key text .mac ≡ noDigest
-  pub card-read : (b : Book) (card : List ℕ) → CardBytes card → Lowest (ReadApplies b card) (readNumber (readOf b card))
+  pub card-read : (b : Book) (card : List ℕ) → Bytes card → Lowest (ReadApplies b card) (readNumber (readOf b card))
   pub card-read-keeps : (b : Book) (card : List ℕ) → readNumber (readOf b card) ≢ done → readBook b card ≡ b
   pub card-write : (b : Book) (room : List ℕ) → Lowest (WriteApplies b room) (writeNumber (writeOf b (length room)))
   pub card-write-keeps : (b : Book) (room : List ℕ) → writeNumber (writeOf b (length room)) ≢ done → roomAfter b room ≡ room

@@ -10,7 +10,7 @@ use Rattle.refusal.specs.declared.Refusal.{Refusal}
 use Rattle.refusal.specs.declared.Refusal.the-variants.{MalformedCard}
 use Rattle.delayed_auth.specs.declared.Verdict.the-variants.{Accepted as CheckAccepted, Refused as CheckRefused}
 use Rattle.delayed_auth.specs.Check.{checkOf}
-use Rattle.book_card.specs.Numbers.{Bytes}
+use Rattle.octets.specs.Bytes.{Bytes}
 use Rattle.book_card.specs.Card.{Row, InOrder, cardOf}
 use Rattle.book_card.specs.Reading.{loaded}
 use Rattle.verdict_line.specs.declared.Line.the-variants.{Accepted, Refused, Unreadable}

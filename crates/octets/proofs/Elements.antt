@@ -2,6 +2,8 @@
 use Prim.Native.Nat.{ℕ, zero, suc, _+_, _<_}
 use native.Mathlib.Omega.{arith}
 use mathlib.Core.List.{List, [], _∷_, _++_}
+use mir.Syntax.{w8}
+use mir.Val.{Fits}
 use lib.ListN.{length, take, drop, getD, take-append-drop}
 use Rattle.octets.specs.Bytes.{Bytes, written}
 
@@ -38,3 +40,7 @@ bytes-at (x ∷ m) h (suc k) = bytes-at m (h .1) k
 pub bytes-of : (m : List ℕ) → ((k : ℕ) → getD m k 0 < 256) → Bytes m
 bytes-of [] g = tt
 bytes-of (x ∷ m) g = (g 0, bytes-of m (λ k. g (suc k)))
+
+-- the same, in the words of what is lent to a function
+pub bytes-lent : (m : List ℕ) → ((k : ℕ) → Fits w8 (getD m k 0)) → Bytes m
+bytes-lent m g = bytes-of m (λ k. omega (arith, g k))

@@ -9,7 +9,7 @@ use lib.ListN.{length, getD, set, length-set}
 use lib.Seq.{drop-cons}
 use Rattle.octets.specs.Bytes.{written, zeros}
 use Rattle.octets.specs.Numbers.{le, value, littleAt, be, bigAt}
-use Rattle.octets.proofs.Written.{written-none, written-cons, written-snoc}
+use Rattle.octets.proofs.Written.{length-written, written-join, written-none, written-cons, written-snoc}
 use Rattle.octets.proofs.HighFirst.{be-length}
 
 -- ---- writing
@@ -31,6 +31,16 @@ module _ (old target new : List ℕ) (p : ℕ) where
   writing-back v more h w =
       let l = w .long in
       record { long = length-set new (p + length more) v ∙ l; rest = sym (written-snoc p v more new (omega arith)) ∙ w .rest }
+
+  -- the next elements at the front are written
+  pub writing-run : (xs more : List ℕ) (q : ℕ) → p + length xs ≡ q → q ≤ length old → Writing old target new p (xs ++ more)
+      → (new′ : List ℕ) → new′ ≡ written p xs new → Writing old target new′ q more
+  writing-run xs more q e h w new′ f =
+      let l = w .long in
+      record {
+        long = ap length f ∙ length-written p xs new (omega arith) ∙ l;
+        rest = ap (written q more) f ∙ written-join p q xs more new e (omega arith) ∙ w .rest;
+      }
 
   pub writing-end : Writing old target new p [] → new ≡ target
   writing-end w = sym (written-none p new) ∙ w .rest

@@ -55,23 +55,24 @@ module _ (s : List ℕ) (h : Bytes s) (at width : ℕ) (fits : at + width ≤ le
   unfolding littleAt
   number-fits = rw field-long at (value-bound (take width (drop at s)) (bytes-take width (drop at s) (bytes-drop at s h)))
 
-  -- what stands there is the number's bytes
-  pub number-split : drop at s ≡ le width (littleAt s at width) ++ drop (at + width) s
+  -- what stands there is the number's bytes, and then what follows them
+  pub number-split : (x : ℕ) (t : List ℕ) → littleAt s at width ≡ x → drop (at + width) s ≡ t → drop at s ≡ le width x ++ t
   unfolding littleAt
-  number-split =
-      let b = bytes-take width (drop at s) (bytes-drop at s h) in
-      let e : le width (value (take width (drop at s))) ≡ take width (drop at s) =
-      ap (λ (n : ℕ). le n (value (take width (drop at s)))) (sym field-long) ∙ le-value (take width (drop at s)) b in
-      sym (take-append-drop width (drop at s)) ∙ ap₂ (λ (x y : List ℕ). x ++ y) (sym e) (drop-drop width at s)
-
--- a number's bytes behind others, read back
-pub number-in : (p q : List ℕ) (width x at : ℕ) → length p ≡ at → x < 256 ^ width → littleAt (p ++ (le width x ++ q)) at width ≡ x
-unfolding littleAt
-number-in p q width x at e h =
-    ap (λ (l : List ℕ). value (take width l)) (drop-at p (le width x ++ q) at e)
-    ∙ ap value (take-at (le width x) q width (le-length width x))
-    ∙ value-le width x h
+  number-split x t e f =
+      let part = take width (drop at s) in
+      let b : le (length part) (value part) ≡ part = le-value part (bytes-take width (drop at s) (bytes-drop at s h)) in
+      let g : part ≡ le width x = sym b ∙ ap₂ le field-long e in
+      sym (take-append-drop width (drop at s)) ∙ ap₂ (λ (y z : List ℕ). y ++ z) g (drop-drop width at s ∙ f)
 
 pub number-from : (s : List ℕ) (at more width : ℕ) → littleAt (drop at s) more width ≡ littleAt s (at + more) width
 unfolding littleAt
 number-from s at more width = ap (λ (l : List ℕ). value (take width l)) (drop-drop more at s)
+
+-- where a number's bytes stand at an offset: the number there, and what follows it
+pub number-of : (s : List ℕ) (at width x : ℕ) (t : List ℕ) → drop at s ≡ le width x ++ t → x < 256 ^ width
+    → (littleAt s at width ≡ x) × (drop (at + width) s ≡ t)
+unfolding littleAt
+number-of s at width x t e h = (
+  ap (λ (l : List ℕ). value (take width l)) e ∙ ap value (take-at (le width x) t width (le-length width x)) ∙ value-le width x h,
+  sym (drop-drop width at s) ∙ ap (drop width) e ∙ drop-at (le width x) t width (le-length width x),
+)
