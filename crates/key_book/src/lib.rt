@@ -1,4 +1,4 @@
-// The key book as the host lends it: whether it is sound, the row of a secret id, the key of a row: docs/RULES.md, 'The key book'.
+// The key book as the host lends it: whether it is sound, the row of a secret id, the key of a row (docs/RULES.md, 'The key book').
 // Not here: the counters' meaning (delayed_auth) and the card on which a book is stored (book_card).
 //
 // A book has room for n rows: ids, key lengths and two rows of counters have n elements, and the key store a slot of SLOT_SIZE bytes per row.
