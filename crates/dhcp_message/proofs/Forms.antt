@@ -123,11 +123,11 @@ module _ (m : List ℕ) (p : Places) where
 -- ---- of a message that passes 2 to 7
 
 module _ {m : List ℕ} {ts : List Token} {rest : List ℕ} (p : Passing m ts rest) where
-  said-there : saidBy (drop (offsetOf 90 ts) m) ≡ saidBy (optionOf 90 ts)
-  said-there = ap saidBy (from-option p (split-90 p)) ∙ said-kept (optionOf 90 ts) _ (option-length p)
+  said-in-place : saidBy (drop (offsetOf 90 ts) m) ≡ saidBy (optionOf 90 ts)
+  said-in-place = ap saidBy (from-option p (split-90 p)) ∙ said-kept (optionOf 90 ts) _ (option-length p)
 
-  whole-there : offsetOf 90 ts + 2 + getD m (offsetOf 90 ts + 1) 0 ≤ length m
-  whole-there =
+  whole-in-place : offsetOf 90 ts + 2 + getD m (offsetOf 90 ts + 1) 0 ≤ length m
+  whole-in-place =
       let l : 1 < length (optionOf 90 ts) = omega (arith, option-length p) in
       let e : getD m (offsetOf 90 ts + 1) 0 ≡ getD (optionOf 90 ts) 1 0 =
       sym (getD-drop (offsetOf 90 ts) m 1 0) ∙ ap (λ (x : List ℕ). getD x 1 0) (from-option p (split-90 p)) ∙ List·getD-append (optionOf 90 ts) _ 0 1 l in
@@ -160,10 +160,10 @@ module _ (m : List ℕ) where
   pub form-fits : (p : Places) → SPassed p ≡ shapeOf m → p .at + 2 + getD m (p .at + 1) 0 ≤ length m
   form-fits p e =
       let q = placed p e in
-      subst (λ (p : Places). p .at + 2 + getD m (p .at + 1) 0 ≤ length m) (q .places) (whole-there (q .passes))
+      subst (λ (p : Places). p .at + 2 + getD m (p .at + 1) 0 ≤ length m) (q .places) (whole-in-place (q .passes))
 
   pub form-where-passed : (p : Places) (f : Form) → SPassed p ≡ shapeOf m → f ≡ formSaid p (saidBy (drop (p .at) m)) → f ≡ formOf m
   form-where-passed p f e h =
       let q = placed p e in
       h ∙ ap (λ (p : Places). formSaid p (saidBy (drop (p .at) m))) (sym (q .places))
-      ∙ ap (formSaid (placesOf (q .tokens))) (said-there (q .passes)) ∙ sym (form-passed (q .passes))
+      ∙ ap (formSaid (placesOf (q .tokens))) (said-in-place (q .passes)) ∙ sym (form-passed (q .passes))

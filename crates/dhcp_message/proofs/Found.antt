@@ -14,7 +14,7 @@ use Rattle.dhcp_message.specs.Message.{count, optionOf, tokensBefore, on
 use Rattle.dhcp_message.specs.Scan.{seenOf, scanFrom}
 use Rattle.dhcp_message.specs.declared.scan.Tally.{Tally}
 use Rattle.dhcp_message.specs.declared.scan.Scan.the-variants.{Whole as SWhole}
-use Rattle.dhcp_message.proofs.Tokens.{nil-right, no-hit, Split, split, count-split, option-there, before-there, last-there}
+use Rattle.dhcp_message.proofs.Tokens.{nil-right, no-hit, Split, split, option-at, before-at, last-at, none-back}
 use Rattle.dhcp_message.proofs.Turns.{seen-auth, seen-relay, seen-other}
 
 -- ---- what was found, on tokens
@@ -117,29 +117,27 @@ module _ (c : ℕ) where
     abbrev s : Split c ts
     s = split c ts (omega arith)
 
-    none-back : count c (s .back) ≡ 0
-    none-back =
-        let n : count c ts ≡ count c (s .front) + (1 + count c (s .back)) = ap (count c) (s .tokens) ∙ count-split c (s .front) (s .body) (s .back) in
-        omega arith
+    back-none : count c (s .back) ≡ 0
+    back-none = none-back s (omega arith)
 
     pub place-once : (at d : ℕ) → place c at d ts ≡ at + length (encode (tokensBefore c ts))
     place-once at d =
         let n = at + length (encode (s .front)) in
         let k = n + (2 + length (s .body)) in
         ap (place c at d) (s .tokens) ∙ place-behind (opt c (s .body) ∷ s .back) (s .front) at d (s .none-front)
-        ∙ ap (λ (x : Bool). place c k (cond x n d) (s .back)) (eq-eqb c c refl) ∙ place-none (s .back) none-back k n
+        ∙ ap (λ (x : Bool). place c k (cond x n d) (s .back)) (eq-eqb c c refl) ∙ place-none (s .back) back-none k n
         ∙ ap (λ (us : List Token). at + length (encode us))
-        (sym (ap (tokensBefore c) (s .tokens) ∙ before-there c (s .front) (s .body) (s .back) (s .none-front)))
+        (sym (before-at s))
 
     pub size-once : (d : ℕ) → size c d ts ≡ length (optionOf c ts)
     size-once d =
         let e : 2 + length (s .body) ≡ length (c ∷ length (s .body) ∷ s .body) = omega arith in
         ap (size c d) (s .tokens) ∙ size-behind (opt c (s .body) ∷ s .back) (s .front) d (s .none-front)
-        ∙ ap (λ (x : Bool). size c (cond x (2 + length (s .body)) d) (s .back)) (eq-eqb c c refl) ∙ size-none (s .back) none-back _
-        ∙ e ∙ ap length (sym (ap (optionOf c) (s .tokens) ∙ option-there c (s .front) (s .body) (s .back) (s .none-front)))
+        ∙ ap (λ (x : Bool). size c (cond x (2 + length (s .body)) d) (s .back)) (eq-eqb c c refl) ∙ size-none (s .back) back-none _
+        ∙ e ∙ ap length (sym (option-at s))
 
     pub code-once : (d : ℕ) → eqb (lastCode d ts) c ≡ isLast c ts
     code-once d =
         ap (λ (us : List Token). eqb (lastCode d us) c) (s .tokens)
-        ∙ ap (λ (n : ℕ). eqb n c) (code-behind (s .body) (s .back) (s .front) d) ∙ code-pads (s .back) none-back
-        ∙ sym (ap (isLast c) (s .tokens) ∙ last-there c (s .front) (s .body) (s .back) (s .none-front))
+        ∙ ap (λ (n : ℕ). eqb n c) (code-behind (s .body) (s .back) (s .front) d) ∙ code-pads (s .back) back-none
+        ∙ sym (last-at s)

@@ -41,11 +41,12 @@ module _ {m : List ℕ} {a : Auth} (y : Fully m a) where
   abbrev pub option : List ℕ
   option = optionOf 90 (y .tokens)
 
-  abbrev pub s : Split 90 (y .tokens)
-  s = split-90 (y .passing)
+  -- its tokens around option 90
+  abbrev pub parts : Split 90 (y .tokens)
+  parts = split-90 (y .passing)
 
   abbrev behind : List ℕ
-  behind = encode (s .back) ++ (255 ∷ y .rest)
+  behind = encode (parts .back) ++ (255 ∷ y .rest)
 
   pub at-is : a .at ≡ offsetOf 90 (y .tokens)
   at-is = ap (λ (a : Auth). a .at) (y .is)
@@ -62,7 +63,7 @@ module _ {m : List ℕ} {a : Auth} (y : Fully m a) where
   pub id-is : a .id ≡ bigAt option 13 4
   id-is = ap (λ (a : Auth). a .id) (y .is)
 
-  pub body-long : length (s .body) ≡ 31
+  pub body-long : length (parts .body) ≡ 31
   body-long = sym (length-byte (y .passing)) ∙ y .long
 
   option-long : length option ≡ 33
@@ -72,10 +73,10 @@ module _ {m : List ℕ} {a : Auth} (y : Fully m a) where
   at-late = omega (arith, at-is)
 
   pub option-inside : a .at + 33 ≤ length m
-  option-inside = omega (arith, inside (y .passing) s, option-long, at-is)
+  option-inside = omega (arith, inside (y .passing) parts, option-long, at-is)
 
   pub from-at : drop (a .at) m ≡ option ++ behind
-  from-at = ap (λ (n : ℕ). drop n m) at-is ∙ from-option (y .passing) s
+  from-at = ap (λ (n : ℕ). drop n m) at-is ∙ from-option (y .passing) parts
 
   -- a number of option 90, and its MAC, where they stand in the message
   number-there : (at n : ℕ) → at + n ≤ 33 → bigAt option at n ≡ bigAt m (a .at + at) n

@@ -16,10 +16,11 @@ use Rattle.dhcp_message.specs.Options.{Token, pad, opt, encode}
 use Rattle.dhcp_message.specs.Message.{count, optionOf, offsetOf, onlyPads, isLast}
 use Rattle.dhcp_message.specs.Image.{without, macZero, headZero, imageOf, coverBytes, coverSize, coverLeft}
 use Rattle.dhcp_message.specs.declared.Auth.{Auth}
-use Rattle.dhcp_message.proofs.Tokens.{Split, split, encode-append, count-append, count-split, option-none, before-none}
-use Rattle.dhcp_message.proofs.Tokens.{without-none, without-append, without-one, count-without, zero-append, zero-none, written-body}
-use Rattle.dhcp_message.proofs.Passing.{Passing, whole, header-size, image-passed, around, front-size, option-is, inside}
-use Rattle.dhcp_message.proofs.FullForms.{Fully, s, at-is, cut-is, gap-is, body-long}
+use Rattle.dhcp_message.proofs.Tokens.{Split, split, encode-append, count-append, option-none, before-none}
+use Rattle.dhcp_message.proofs.Tokens.{without-none, without-append, without-one, count-without}
+use Rattle.dhcp_message.proofs.Tokens.{zero-append, zero-none, written-body, option-at, none-back}
+use Rattle.dhcp_message.proofs.Passing.{Passing, whole, header-size, image-passed, around, front-size, inside}
+use Rattle.dhcp_message.proofs.FullForms.{Fully, parts, at-is, cut-is, gap-is, body-long}
 use Rattle.dhcp_message.proofs.Headers.{head-left, head-length}
 use Rattle.dhcp_message.proofs.Covers.{Fits, cover-bytes, cover-length, cover-fitting}
 
@@ -72,11 +73,11 @@ module _ {m : List ℕ} {ts : List Token} {rest : List ℕ} (p : Passing m ts re
       let pre = take 240 m ++ encode (s .front) in
       let post = encode (s .back) ++ (255 ∷ rest) in
       let x = optionOf 82 ts in
-      let ar : m ≡ pre ++ (x ++ post) = around p s ∙ ap (λ (x : List ℕ). pre ++ (x ++ post)) (sym (option-is p s)) in
+      let ar : m ≡ pre ++ (x ++ post) = around p s ∙ ap (λ (x : List ℕ). pre ++ (x ++ post)) (sym (option-at s)) in
       let lp : length pre ≡ cut = front-size p s in
       let i = inside p s in
-      let c : count 82 ts ≡ count 82 (s .front) + (1 + count 82 (s .back)) = ap (count 82) (s .tokens) ∙ count-split 82 (s .front) (s .body) (s .back) in
-      let cf : count 82 (s .front ++ s .back) ≡ 0 = count-append 82 (s .front) (s .back) ∙ omega (arith, p .most-82, s .none-front) in
+      let cf : count 82 (s .front ++ s .back) ≡ 0 =
+      count-append 82 (s .front) (s .back) ∙ ap₂ (λ (a b : ℕ). a + b) (s .none-front) (none-back s (p .most-82)) in
       let gone : without 82 ts ≡ s .front ++ s .back =
       ap (without 82) (s .tokens) ∙ without-one 82 (s .front) (s .body) (s .back) ∙ without-none 82 (s .front ++ s .back) cf in
       let t : take cut m ≡ pre = ap (take cut) ar ∙ take-at pre _ cut lp in
@@ -97,32 +98,31 @@ module _ {m : List ℕ} {ts : List Token} {rest : List ℕ} (p : Passing m ts re
 
 module _ {m : List ℕ} {a : Auth} (y : Fully m a) where
   abbrev front : List Token
-  front = s y .front
+  front = parts y .front
 
   abbrev body : List ℕ
-  body = s y .body
+  body = parts y .body
 
   abbrev back : List Token
-  back = without 82 (s y .back)
+  back = without 82 (parts y .back)
 
   abbrev left : List ℕ
   left = take (a .cut) m ++ drop (a .cut + a .gap) m
 
   pub front-82 : count 82 front ≡ 0
-  front-82 = none-before 82 front 90 body (s y .back) (ap (isLast 82) (sym (s y .tokens)) ∙ y .passing .last-82)
+  front-82 = none-before 82 front 90 body (parts y .back) (ap (isLast 82) (sym (parts y .tokens)) ∙ y .passing .last-82)
 
   left-is : without 82 (y .tokens) ≡ front ++ (opt 90 body ∷ back)
   left-is =
-      ap (without 82) (s y .tokens) ∙ without-append 82 front (opt 90 body ∷ s y .back)
+      ap (without 82) (parts y .tokens) ∙ without-append 82 front (opt 90 body ∷ parts y .back)
       ∙ ap (λ (us : List Token). us ++ (opt 90 body ∷ back)) (without-none 82 front front-82)
 
   zero-is : macZero (without 82 (y .tokens)) ≡ front ++ (opt 90 (written 15 (zeros 16) body) ∷ back)
   zero-is =
       let n : _≢_ {A = ℕ} 90 82 = λ e. omega arith in
-      let c : count 90 (y .tokens) ≡ count 90 front + (1 + count 90 (s y .back)) = ap (count 90) (s y .tokens) ∙ count-split 90 front body (s y .back) in
-      let cb : count 90 back ≡ 0 = count-without 82 90 n (s y .back) ∙ omega (arith, y .passing .one-90) in
+      let cb : count 90 back ≡ 0 = count-without 82 90 n (parts y .back) ∙ none-back (parts y) (omega (arith, y .passing .one-90)) in
       ap macZero left-is ∙ zero-append front (opt 90 body ∷ back)
-      ∙ ap₂ (λ (us vs : List Token). us ++ (opt 90 (written 15 (zeros 16) body) ∷ vs)) (zero-none front (s y .none-front)) (zero-none back cb)
+      ∙ ap₂ (λ (us vs : List Token). us ++ (opt 90 (written 15 (zeros 16) body) ∷ vs)) (zero-none front (parts y .none-front)) (zero-none back cb)
 
   -- the bytes of header, these tokens with a body of option 90, and the rest
   abbrev around-body : List ℕ → List ℕ → List ℕ
@@ -149,7 +149,7 @@ module _ {m : List ℕ} {a : Auth} (y : Fully m a) where
       ∙ omega (arith, stretch-inside) in
       let e = sym n ∙ ap length left-bytes ∙ length-append (take 240 m ++ encode front) _ in
       let b = length-append body (encode back ++ (255 ∷ y .rest)) in
-      omega (arith, front-size (y .passing) (s y), at-is y, body-long y)
+      omega (arith, front-size (y .passing) (parts y), at-is y, body-long y)
 
   fits-full : (room : ℕ) → length m ≤ room → Fits (length m) room a
   fits-full room h = record { stretch = stretch-inside; fits-room = omega arith; fields-there = fields-left }
@@ -165,7 +165,7 @@ module _ {m : List ℕ} {a : Auth} (y : Fully m a) where
       let lpre : length (h0 ++ encode front) ≡ a .at =
       length-append h0 (encode front)
       ∙ ap (λ (n : ℕ). n + length (encode front)) (head-length (zeros 1) (zeros 4) refl refl h h28)
-      ∙ sym (length-append h (encode front)) ∙ front-size (y .passing) (s y) ∙ sym (at-is y) in
+      ∙ sym (length-append h (encode front)) ∙ front-size (y .passing) (parts y) ∙ sym (at-is y) in
       cover-bytes m m a (fits-full (length m) (omega arith))
       ∙ ap (λ (x : List ℕ). written (a .at + 17) (zeros 16) (headZero x)) (left-bytes ∙ sym (spread h body))
       ∙ ap (written (a .at + 17) (zeros 16)) (head-left (zeros 1) (zeros 4) refl refl h h28 _ ∙ spread h0 body)

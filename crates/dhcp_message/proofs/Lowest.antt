@@ -31,8 +31,8 @@ use Rattle.dhcp_message.specs.declared.Form.the-variants.{Refused, Full}
 use Rattle.octets.proofs.Starts.{starts-true, starts-not}
 use Rattle.octets.proofs.Elements.{bytes-drop}
 use Rattle.dhcp_message.proofs.Decoding.{decode-reads, reads-decode}
-use Rattle.dhcp_message.proofs.Tokens.{Split, split, count-split, option-there, last-there, last-none, pads-true, pads-false}
-use Rattle.dhcp_message.proofs.Passing.{Passing, passing, split-90, option-is}
+use Rattle.dhcp_message.proofs.Tokens.{Split, split, count-split, option-there, last-there, last-none, pads-true, pads-false, option-at}
+use Rattle.dhcp_message.proofs.Passing.{Passing, passing, split-90}
 
 -- ---- which numbers the message alone decides
 
@@ -177,7 +177,7 @@ module _ (m : List ℕ) (bytes : Bytes m) (ts : List Token) (rest : List ℕ) (p
   body-of {P} r =
       let w = read-as m bytes ts rest (p .reads) r in
       let z = front-none 90 ts (w .front) (w .body) (w .back) (omega (arith, p .one-90)) (w .splits) in
-      let x = sym (ap (optionOf 90) (w .splits) ∙ option-there 90 (w .front) (w .body) (w .back) z) ∙ option-is p s in
+      let x = sym (ap (optionOf 90) (w .splits) ∙ option-there 90 (w .front) (w .body) (w .back) z) ∙ option-at s in
       let b : w .body ≡ s .body = cc in
       (w .back, subst (λ (b : List ℕ). P b (w .back)) b (w .holds))
 
@@ -207,7 +207,7 @@ module _ (m : List ℕ) (bytes : Bytes m) (ts : List Token) (rest : List ℕ) (p
   given-said : GivenForm m (formSaid (placesOf ts) (saidBy (optionOf 90 ts)))
   unfolding saidBy
   given-said =
-      subst (λ (x : List ℕ). GivenForm m (formSaid (placesOf ts) (saidBy x))) (sym (option-is p s))
+      subst (λ (x : List ℕ). GivenForm m (formSaid (placesOf ts) (saidBy x))) (sym (option-at s))
       (given-for (eqb (length (s .body)) 31) (eqb (length (s .body)) 11) (starts delayed (s .body)) _ _ _ refl refl refl)
 
 given-form : (m : List ℕ) → Bytes m → GivenForm m (formOf m)

@@ -13,14 +13,14 @@ use Rattle.refusal.specs.declared.Refusal.the-variants.{MessageSize, WrongCooki
 use Rattle.dhcp_message.specs.Layout.{magicCookie}
 use Rattle.octets.specs.Bytes.{starts}
 use Rattle.dhcp_message.specs.Options.{Token, Parsed, cut, parsed, encode, decode}
-use Rattle.dhcp_message.specs.Message.{count, optionOf, tokensBefore, offsetOf, isLast}
+use Rattle.dhcp_message.specs.Message.{count, optionOf, offsetOf, isLast}
 use Rattle.dhcp_message.specs.Message.{Checked, stopped, passed, checkedTokens, checkedParsed, checkedOf, Passed, Passes27, authIn, authOptionOf}
 use Rattle.dhcp_message.specs.Said.{saidBy, saidIn, saidOf, idOf, named, placesOf, formSaid, formIn, formOf}
 use Rattle.dhcp_message.specs.Image.{without, macZero, headZero, imageIn, imageOf}
 use Rattle.dhcp_message.specs.Scan.{shapeIn, shapeOf}
 use Rattle.octets.proofs.Starts.{starts-append}
 use Rattle.dhcp_message.proofs.Decoding.{Codes, decode-encode, encode-decode}
-use Rattle.dhcp_message.proofs.Tokens.{once, Split, split, encode-append, option-there, before-there}
+use Rattle.dhcp_message.proofs.Tokens.{once, Split, split, encode-append, option-at, before-at}
 
 pub record Passing (m : List ℕ) (ts : List Token) (rest : List ℕ) : Type 0 where
   pub long : 241 ≤ length m
@@ -211,21 +211,18 @@ module _ {m : List ℕ} {ts : List Token} {rest : List ℕ} (p : Passing m ts re
     front-size =
         length-append (take 240 m) (encode (s .front))
         ∙ ap₂ (λ (n : ℕ) (us : List Token). n + length (encode us)) header-size
-        (sym (before-there c (s .front) (s .body) (s .back) (s .none-front)) ∙ ap (tokensBefore c) (sym (s .tokens)))
-
-    pub option-is : optionOf c ts ≡ c ∷ length (s .body) ∷ s .body
-    option-is = ap (optionOf c) (s .tokens) ∙ option-there c (s .front) (s .body) (s .back) (s .none-front)
+        (sym (before-at s))
 
     pub from-option : drop (offsetOf c ts) m ≡ optionOf c ts ++ (encode (s .back) ++ (255 ∷ rest))
     from-option =
         ap (drop (offsetOf c ts)) around ∙ drop-at (take 240 m ++ encode (s .front)) _ (offsetOf c ts) front-size
-        ∙ ap (λ (x : List ℕ). x ++ (encode (s .back) ++ (255 ∷ rest))) (sym option-is)
+        ∙ ap (λ (x : List ℕ). x ++ (encode (s .back) ++ (255 ∷ rest))) (sym (option-at s))
 
     pub inside : offsetOf c ts + length (optionOf c ts) < length m
     inside =
         let a = ap length around in
         let b = front-size in
-        let d = ap length option-is in
+        let d = ap length (option-at s) in
         omega (arith, simp length-append at a, simp length-append at b)
 
   -- its one option 90
@@ -233,10 +230,10 @@ module _ {m : List ℕ} {ts : List Token} {rest : List ℕ} (p : Passing m ts re
   split-90 = split 90 ts (omega (arith, p .one-90))
 
   pub length-byte : getD (optionOf 90 ts) 1 0 ≡ length (split-90 .body)
-  length-byte = ap (λ (x : List ℕ). getD x 1 0) (option-is split-90)
+  length-byte = ap (λ (x : List ℕ). getD x 1 0) (option-at split-90)
 
   pub option-length : 2 + getD (optionOf 90 ts) 1 0 ≡ length (optionOf 90 ts)
   option-length =
       let a = length-byte in
-      let b = ap length (option-is split-90) in
+      let b = ap length (option-at split-90) in
       omega arith

@@ -24,10 +24,10 @@ use Rattle.dhcp_message.specs.declared.Form.{Form}
 use Rattle.dhcp_message.specs.declared.Form.the-variants.{Refused, Full}
 use Rattle.dhcp_message.proofs.Decoding.{Codes, codes-append, codes-left, codes-right}
 use Rattle.dhcp_message.proofs.Tokens.{encode-append, count-append, option-behind, before-behind, last-behind, option-there, before-there}
-use Rattle.dhcp_message.proofs.Tokens.{without-append, zero-append, written-body}
+use Rattle.dhcp_message.proofs.Tokens.{without-append, zero-append, written-body, option-at, before-at}
 use Rattle.dhcp_message.proofs.Passing.{Passing, said-in, named-in, form-in, passing-27, take-built, passing-built, header-size, header-magic, codes}
-use Rattle.dhcp_message.proofs.Passing.{form-passed, said-passed, image-passed, around, front-size, option-is}
-use Rattle.dhcp_message.proofs.FullForms.{Fully, fully, option, s, at-is, cut-is, gap-is, counter-is, id-is, body-long, at-late, option-inside}
+use Rattle.dhcp_message.proofs.Passing.{form-passed, said-passed, image-passed, around, front-size}
+use Rattle.dhcp_message.proofs.FullForms.{Fully, fully, option, parts, at-is, cut-is, gap-is, counter-is, id-is, body-long, at-late, option-inside}
 use Rattle.dhcp_message.proofs.FullForms.{from-at, counter-there, id-there, said-there}
 use Rattle.dhcp_message.proofs.Covers.{covers-offsets}
 use Rattle.dhcp_message.proofs.Images.{front-82, stretch-inside, image-length, covers-full}
@@ -41,13 +41,13 @@ module _ {m : List ℕ} {a : Auth} (y : Fully m a) (new : List ℕ) (size : leng
   p = y .passing
 
   abbrev front : List Token
-  front = s y .front
+  front = parts y .front
 
   abbrev back : List Token
-  back = s y .back
+  back = parts y .back
 
   abbrev body : List ℕ
-  body = s y .body
+  body = parts y .body
 
   abbrev body′ : List ℕ
   body′ = written 3 new body
@@ -66,8 +66,8 @@ module _ {m : List ℕ} {a : Auth} (y : Fully m a) (new : List ℕ) (size : leng
       let pre = take 240 m ++ encode front in
       let post = encode back ++ (255 ∷ y .rest) in
       let l : 3 + length new ≤ length body = omega (arith, body-long y) in
-      ap (written (a .at + 5) new) (around p (s y))
-      ∙ written-body (a .at) 3 90 (length body) new pre body post (front-size p (s y) ∙ sym (at-is y)) l
+      ap (written (a .at + 5) new) (around p (parts y))
+      ∙ written-body (a .at) 3 90 (length body) new pre body post (front-size p (parts y) ∙ sym (at-is y)) l
       ∙ ap (λ (n : ℕ). pre ++ (90 ∷ n ∷ (body′ ++ post))) (sym same-size)
       ∙ simp (encode-append, append-assoc)
 
@@ -76,17 +76,17 @@ module _ {m : List ℕ} {a : Auth} (y : Fully m a) (new : List ℕ) (size : leng
 
   -- the counts, and whether 82 is last, go by codes; offsets go by sizes too
   count-same : (c : ℕ) → count c (with-body body′) ≡ count c (y .tokens)
-  count-same c = count-append c front (opt 90 body′ ∷ back) ∙ sym (ap (count c) (s y .tokens) ∙ count-append c front (opt 90 body ∷ back))
+  count-same c = count-append c front (opt 90 body′ ∷ back) ∙ sym (ap (count c) (parts y .tokens) ∙ count-append c front (opt 90 body ∷ back))
 
   last-same : isLast 82 (with-body body′) ≡ isLast 82 (y .tokens)
   last-same =
       last-behind 82 (opt 90 body′ ∷ back) front (front-82 y)
-      ∙ sym (ap (isLast 82) (s y .tokens) ∙ last-behind 82 (opt 90 body ∷ back) front (front-82 y))
+      ∙ sym (ap (isLast 82) (parts y .tokens) ∙ last-behind 82 (opt 90 body ∷ back) front (front-82 y))
 
   option-same : optionOf 82 (with-body body′) ≡ optionOf 82 (y .tokens)
   option-same =
       option-behind 82 (opt 90 body′ ∷ back) front (front-82 y)
-      ∙ sym (ap (optionOf 82) (s y .tokens) ∙ option-behind 82 (opt 90 body ∷ back) front (front-82 y))
+      ∙ sym (ap (optionOf 82) (parts y .tokens) ∙ option-behind 82 (opt 90 body ∷ back) front (front-82 y))
 
   offset-82 : (b : List ℕ) → offsetOf 82 (with-body b) ≡ 240 + (length (encode front) + (2 + (length b + length (encode (tokensBefore 82 back)))))
   offset-82 b =
@@ -96,17 +96,17 @@ module _ {m : List ℕ} {a : Auth} (y : Fully m a) (new : List ℕ) (size : leng
   cut-same : offsetOf 82 (with-body body′) ≡ a .cut
   cut-same =
       offset-82 body′ ∙ ap (λ (n : ℕ). 240 + (length (encode front) + (2 + (n + length (encode (tokensBefore 82 back)))))) same-size
-      ∙ sym (cut-is y ∙ ap (offsetOf 82) (s y .tokens) ∙ offset-82 body)
+      ∙ sym (cut-is y ∙ ap (offsetOf 82) (parts y .tokens) ∙ offset-82 body)
 
   at-same : offsetOf 90 (with-body body′) ≡ a .at
   at-same =
       ap (λ (us : List Token). 240 + length (encode us))
-      (before-there 90 front body′ back (s y .none-front) ∙ sym (ap (tokensBefore 90) (s y .tokens) ∙ before-there 90 front body back (s y .none-front)))
+      (before-there 90 front body′ back (parts y .none-front) ∙ sym (before-at (parts y)))
       ∙ sym (at-is y)
 
   passing-sealed : Passing out (with-body body′) (y .rest)
   passing-sealed =
-      let cs = subst Codes (s y .tokens) (codes p) in
+      let cs = subst Codes (parts y .tokens) (codes p) in
       passing-built out (take 240 m) (with-body body′) (y .rest) out-is (header-size p)
       (codes-append front (opt 90 body′ ∷ back) (codes-left front (opt 90 body ∷ back) cs) (codes-right front (opt 90 body ∷ back) cs))
       (count-same 90 ∙ p .one-90) (subst (λ (n : ℕ). n ≤ 1) (sym (count-same 82)) (p .most-82)) (last-same ∙ p .last-82)
@@ -114,8 +114,8 @@ module _ {m : List ℕ} {a : Auth} (y : Fully m a) (new : List ℕ) (size : leng
 
   said-bytes : saidBy (optionOf 90 (with-body body′)) ≡ says (bigAt new 0 8) (bigAt new 8 4) (drop 12 new)
   said-bytes =
-      let method = ap (λ (x : List ℕ). starts delayed (drop 2 x)) (sym (option-is p (s y))) ∙ y .method in
-      ap saidBy (option-there 90 front body′ back (s y .none-front)) ∙ said-new body new (body-long y) size method
+      let method = ap (λ (x : List ℕ). starts delayed (drop 2 x)) (sym (option-at (parts y))) ∙ y .method in
+      ap saidBy (option-there 90 front body′ back (parts y .none-front)) ∙ said-new body new (body-long y) size method
 
   auth-same : authOf (placesOf (with-body body′)) (bigAt new 0 8) (bigAt new 8 4) ≡ withFields a (bigAt new 0 8) (bigAt new 8 4)
   auth-same i = record {

@@ -120,6 +120,22 @@ module _ (c : ℕ) where
       by true q ih l = record { front = []; body = b; back = ts; tokens = ap (λ (n : ℕ). opt n b ∷ ts) (eqb-true e c q); none-front = refl }
       by false q ih l = behind (opt e b) ts (rw q) (ih (omega arith))
 
+-- what such a split says
+module _ {c : ℕ} {ts : List Token} (s : Split c ts) where
+  pub option-at : optionOf c ts ≡ c ∷ length (s .body) ∷ s .body
+  option-at = ap (optionOf c) (s .tokens) ∙ option-there c (s .front) (s .body) (s .back) (s .none-front)
+
+  pub before-at : tokensBefore c ts ≡ s .front
+  before-at = ap (tokensBefore c) (s .tokens) ∙ before-there c (s .front) (s .body) (s .back) (s .none-front)
+
+  pub last-at : isLast c ts ≡ onlyPads (s .back)
+  last-at = ap (isLast c) (s .tokens) ∙ last-there c (s .front) (s .body) (s .back) (s .none-front)
+
+  pub none-back : count c ts ≤ 1 → count c (s .back) ≡ 0
+  none-back h =
+      let n : count c ts ≡ count c (s .front) + (1 + count c (s .back)) = ap (count c) (s .tokens) ∙ count-split c (s .front) (s .body) (s .back) in
+      omega arith
+
 -- only pads: no option of any code
 pub pads-none : (c : ℕ) (ts : List Token) → onlyPads ts ≡ true → count c ts ≡ 0
 pads-none c [] h = refl
