@@ -1,4 +1,4 @@
--- `decode` and `encode` undo each other. After `decode-cons` nothing unfolds `decodeAt`.
+-- `decode` and `encode` undo each other. Of the laws these alone unfold `decodeAt`; the others go by `decode-cons` and `encode-decode`.
 use mathlib.Core.Path.{_≡_, refl, sym, ap, _∙_, fun-ext, subst}
 use mathlib.Core.Logic.{_≢_}
 use Prim.Native.Nat.{ℕ, zero, suc, _≤_, _<_}

@@ -1,4 +1,4 @@
--- Laws of tokens: appending, splitting at the option of a code, and taking options out.
+-- Laws of tokens: appending, splitting at the option of a code, taking options out, and writing inside an option's body.
 use mathlib.Core.Path.{_≡_, refl, sym, ap, ap₂, _∙_}
 use mathlib.Core.Logic.{_≢_}
 use Prim.Native.Nat.{ℕ, zero, suc, _+_, _≤_}
