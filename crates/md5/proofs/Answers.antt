@@ -1,5 +1,5 @@
 -- Laws of the entries' answers: each by the limit on its total, and as the code comes to it.
-use mathlib.Core.Path.{_≡_}
+use mathlib.Core.Path.{_≡_, sym}
 use mathlib.Core.Logic.{_≢_}
 use mathlib.Core.List.{List, _∷_, _++_}
 use Prim.Native.Nat.{ℕ, _+_, _-_, _*_, _/_, _%_, _≤_, _<_}
@@ -77,7 +77,7 @@ module _ (s : List ℕ) (f : Fed) (e : f ≡ feedOf fresh s) where
       ]
 
 -- the single 1 bit, the zeros and the count of bits, written into a list of zeros
-pub padding-written : (n : ℕ) → let k = (119 - n % blockSize) % blockSize in
+padding-written : (n : ℕ) → let k = (119 - n % blockSize) % blockSize in
     take (k + 9) (written (k + 1) (le 8 (n * 8)) (set (zeros (blockSize + 8)) 0 0x80)) ≡ padding n
 unfolding padding
 padding-written n =
@@ -85,3 +85,9 @@ padding-written n =
     let l = le-length 8 (n * 8) in
     let e : k + 9 ≡ k + 1 + length (le 8 (n * 8)) = omega arith in
     rw (e, take-written (k + 1) (le 8 (n * 8)) (0x80 ∷ zeros (blockSize + 7)) (omega arith), add-one, take-zeros k (blockSize + 7) (omega arith))
+
+-- the padding p absorbed, and the bytes of the words then
+pub finish-padded : (d e : Digest) (p o : List ℕ) → d .total ≤ digestMost → let k = (119 - d .total % blockSize) % blockSize in
+    p ≡ written (k + 1) (le 8 (d .total * 8)) (set (zeros (blockSize + 8)) 0 0x80)
+    → e ≡ absorb d (take (k + 9) p) → o ≡ output (e .words) → record { number = done; digest = o } ≡ finishOf d
+finish-padded d e p o h hp he ho = rw (ho, he, hp, padding-written (d .total)) (sym (finish-taken d h))

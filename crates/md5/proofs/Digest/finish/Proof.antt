@@ -6,7 +6,7 @@ use lib.Seq.{length-take-le}
 use native.Mathlib.Omega.{arith}
 use Rattle.md5.specs.declared.Finished.{Finished}
 use Rattle.md5.specs.Entries.{noDigest}
-use Rattle.md5.proofs.Answers.{padding-written, finish-taken, finish-refused}
+use Rattle.md5.proofs.Answers.{finish-padded, finish-refused}
 use borrow.Author.Needs.{needs}
 use Rattle.md5.proofs.Digest.finish.Statement.{statement}
 use Rattle.md5.proofs.Digest.finish.Tie as tie
@@ -52,7 +52,7 @@ bytes-of-requires c κs = search needs
 
 returns-2 : tie.Need-returns-2
 returns-2 c = let d = c .before .before .before .before .before .before .before .args .self in
-    cc (finish-taken d (omega arith), padding-written (d .total))
+    finish-padded d _ _ _ (omega arith) (c .before .before .before .before .put-little .ensures) (c .before .absorbed .ensures) (c .bytes-of .ensures)
 
 pub finish-spec : {M : Type 1} → statement M
 finish-spec =
