@@ -61,11 +61,11 @@ size-fits line room = on (leb (length (lineOf line)) room) refl
     on false e = omega arith
 
 -- what `write_line` promises
-abbrev pub Written : Line → List ℕ → List ℕ → ℕ → Type 0
-Written line old new r = (r ≡ sizeIn line (length old)) × ((new ≡ outAfter line old) × (lineMost ≤ length old → r ≡ length (lineOf line)))
+abbrev pub LineWritten : Line → List ℕ → List ℕ → ℕ → Type 0
+LineWritten line old new r = (r ≡ sizeIn line (length old)) × ((new ≡ outAfter line old) × (lineMost ≤ length old → r ≡ length (lineOf line)))
 
 -- the line does not fit
-pub no-room : (line : Line) (out : List ℕ) → length (lineOf line) ≤ lineMost → length out < length (lineOf line) → Written line out out 0
+pub no-room : (line : Line) (out : List ℕ) → length (lineOf line) ≤ lineMost → length out < length (lineOf line) → LineWritten line out out 0
 unfolding sizeIn outAfter
 no-room line out f h = let e = lt-leb (length (lineOf line)) (length out) h in (rw e, (rw e, λ m. absurd (omega arith)))
 
@@ -79,7 +79,7 @@ module _ {old s made : List ℕ} {size : ℕ} (m : Made old s made size) where
 
 -- the line fits, and is copied from there
 pub fits-room : (line : Line) {out old made new : List ℕ} {size r : ℕ} → Made old (lineOf line) made size → size ≤ length out
-    → PutAt out 0 (take size made) new r → Written line out new r
+    → PutAt out 0 (take size made) new r → LineWritten line out new r
 unfolding sizeIn outAfter
 fits-room line {out} {r = r} m h c =
     let t = made-take m in
