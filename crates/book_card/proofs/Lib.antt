@@ -5,4 +5,5 @@ pub mod Counting
 pub mod Slots
 pub mod Loads
 pub mod Fills
+pub mod Sizes
 pub mod Writes

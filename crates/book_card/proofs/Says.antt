@@ -72,6 +72,14 @@ unfoldable pub goOn : ℕ → List ℕ → Row → ℕ → ℕ → List ℕ → 
 goOn zero s r l m t = ended fault s
 goOn (suc left) s r l m t = withRow r (frontFrom left l m t)
 
+pub on-none : (s : List ℕ) (r : Row) (l m : ℕ) (t : List ℕ) → goOn 0 s r l m t ≡ ended fault s
+unfolding goOn
+on-none s r l m t = refl
+
+pub on-more : (left : ℕ) (s : List ℕ) (r : Row) (l m : ℕ) (t : List ℕ) → goOn (suc left) s r l m t ≡ withRow r (frontFrom left l m t)
+unfolding goOn
+on-more left s r l m t = refl
+
 pub front-step : (left low n : ℕ) (s : List ℕ) → frontFrom left low n s ≡ stepFrom (goOn left s) low n s (frontOf s)
 unfolding frontFrom goOn
 front-step zero low n s = refl
@@ -112,7 +120,8 @@ reads (r ∷ rows) (suc left) low n t a l =
 reads-close : (left low n : ℕ) → n < 256 ^ countSize → frontFrom left low n (close n) ≡ ended closed (close n)
 reads-close left low n h =
     let e : frontOf (close n) ≡ Close n = ap frontOf (sym (append-nil (close n))) ∙ front-of-close n [] h in
-    front-step left low n (close n) ∙ ap (stepFrom (goOn left (close n)) low n (close n)) e ∙ rw (eq-eqb _ closeSize (close-size n), eq-eqb n n refl)
+    front-step left low n (close n) ∙ ap (stepFrom (goOn left (close n)) low n (close n)) e
+    ∙ rw (eq-eqb _ closeSize (close-size n), eq-eqb n n refl)
 
 -- the rows of a card stand in front of it and end closed
 reads-card : (rows : List Row) → InOrder rows → rowsInFront (cardOf rows) ≡ record { rows = rows; ends = closed; rest = close (length rows) }
@@ -136,7 +145,13 @@ record Good (left low n : ℕ) (s : List ℕ) (f : FrontRows) : Type 0 where
 
 good-fault : (left low n : ℕ) (s : List ℕ) → Good left low n s (ended fault s)
 unfolding After
-good-fault left low n s = record { ordered = tt; few = omega arith; bytes = sym (records-none s); closes = λ e. absurd (let z : _≡_ {A = ℕ} 0 1 = cc in omega arith) }
+good-fault left low n s =
+    record {
+      ordered = tt;
+      few = omega arith;
+      bytes = sym (records-none s);
+      closes = λ e. absurd (let z : _≡_ {A = ℕ} 0 1 = cc in omega arith);
+    }
 
 good-closed : (left low n m : ℕ) (s : List ℕ) → GoodClose s m → length s ≡ closeSize → m ≡ n → Good left low n s (ended closed s)
 unfolding After
@@ -166,7 +181,6 @@ good-onto left low n id size s f l g a =
 module _ (left low n : ℕ) (s : List ℕ) where
   good-step : ((id size : ℕ) → low ≤ id → GoodRow s id size → Good left low n s (goOn left s (rowFront s size) (suc id) (suc n) (drop (keyAt + size) s)))
       → (f : Front) → FrontGood s f → Good left low n s (stepFrom (goOn left s) low n s f)
-  unfolding FrontGood
   good-step ih Broken g = good-fault left low n s
   good-step ih (Close m) g = on (eqb (length s) closeSize) refl (eqb m n) refl
     where
@@ -189,6 +203,10 @@ good (suc left) low n s h =
     (good-step (suc left) low n s
     (λ id size l g. good-onto left low n id size s _ l g (good left (suc id) (suc n) (drop (keyAt + size) s) (bytes-drop (keyAt + size) s h)))
     (frontOf s) (front-good s h))
+
+pub read-from : (s : List ℕ) → readCard s ≡ cardIn (frontFrom rowsMost 0 0 s)
+unfolding readCard rowsInFront
+read-from s = refl
 
 pub front-says : FrontSays
 unfolding rowsInFront

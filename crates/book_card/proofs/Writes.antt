@@ -1,8 +1,8 @@
--- Writing a card: its size, the fields of a record written one after another, what each turn over the rows keeps, and each end of `card_write`.
-use mathlib.Core.Path.{_≡_, refl, sym, ap, ap₂, _∙_}
+-- Writing a card: the fields of a record one after another, what each turn over the rows keeps, and each end of `card_write`.
+use mathlib.Core.Path.{_≡_, refl, sym, ap, _∙_}
 use mathlib.Core.Bool.{Bool, true, false, not}
 use mathlib.Core.List.{List, [], _++_, append-nil}
-use Prim.Native.Nat.{ℕ, zero, suc, _+_, _-_, _*_, _≤_, _<_}
+use Prim.Native.Nat.{ℕ, suc, _+_, _-_, _*_, _≤_, _<_}
 use native.Mathlib.Omega.{arith}
 use borrow.Author.Tests.{lt-ltb, le-ltb, not-true, not-false}
 use lib.ListN.{length, getD, take, drop, length-append}
@@ -15,89 +15,15 @@ use Rattle.octets.proofs.Loops.{Writing, writing-run, writing-end}
 use Rattle.key_book.specs.Limits.{rowsMost, slotSize}
 use Rattle.key_book.specs.Book.{Book, bookOf, Sound, sound}
 use Rattle.key_book.specs.Laws.{Within}
-use Rattle.key_book.proofs.Says.{sound-says, rows-within, key-says, key-is, key-long}
+use Rattle.key_book.proofs.Says.{sound-says, rows-within, key-is, key-long}
 use Rattle.book_card.specs.Layout.{lengthSize, kindSize, idSize, counterSize, countSize, rowKind, closeKind}
 use Rattle.book_card.specs.Layout.{kindAt, bodyAt, receivedAt, sentAt, keyAt, closeSize}
-use Rattle.book_card.specs.Card.{rowRecord, close, rowRecords, cardOf}
-use Rattle.book_card.specs.Writing.{rowAt, rowsFrom, rowsOf, sizeTo, writeOf, roomAfter, roomBy}
+use Rattle.book_card.specs.Card.{rowRecord, close, cardOf}
+use Rattle.book_card.specs.Writing.{rowAt, rowsOf, sizeTo, writeOf, roomAfter, roomBy}
 use Rattle.book_card.specs.declared.WriteAnswer.{WriteAnswer}
 use Rattle.book_card.specs.declared.WriteAnswer.the-variants.{Refused, Size}
-use Rattle.book_card.proofs.Shape.{rowFields, row-fields, closeFields, close-fields, row-size, close-size, records-cons, records-none, card-is}
-
--- ---- the size of a card
-
--- sizes are being added up; a key length is a byte
-pub record Summing (lengths : List ℕ) (rows size row : ℕ) : Type 0 where
-  pub within : row ≤ rows
-  pub sum : size ≡ sizeTo lengths row
-  pub small : size ≤ closeSize + (keyAt + 255) * row
-
-module _ (lengths : List ℕ) (rows : ℕ) where
-  pub summing-start : Summing lengths rows closeSize 0
-  unfolding sizeTo
-  summing-start = record { within = omega arith; sum = refl; small = omega arith }
-
-  module _ (size row : ℕ) (s : Summing lengths rows size row) where
-    pub summing-turn : row < rows → getD lengths row 0 < 256 → Summing lengths rows (size + (keyAt + getD lengths row 0)) (row + 1)
-    unfolding sizeTo
-    summing-turn h byte =
-        let e : row + 1 ≡ suc row = omega arith in
-        let m = s .small in
-        record { within = omega arith; sum = rw e (ap (λ (n : ℕ). n + (keyAt + getD lengths row 0)) (s .sum)); small = omega arith }
-
-    pub summing-end : rows ≤ row → size ≡ sizeTo lengths rows
-    summing-end h =
-        let w = s .within in
-        let e : row ≡ rows = omega arith in
-        rw (← e) (s .sum)
-
-pub rows-length : (b : Book) (k n : ℕ) → length (rowsFrom b k n) ≡ n
-unfolding rowsFrom
-rows-length b k zero = refl
-rows-length b k (suc n) = ap suc (rows-length b (suc k) n)
-
--- the bytes of a book's card from a row on
-unfoldable pub restOf : Book → ℕ → ℕ → List ℕ
-restOf b row left = rowRecords (rowsFrom b row left) ++ close (b .rows)
-
-rest-next : (b : Book) (row left : ℕ) → restOf b row (suc left) ≡ rowRecord (rowAt b row) ++ restOf b (suc row) left
-unfolding restOf rowsFrom
-rest-next b row left = records-cons (rowAt b row) (rowsFrom b (suc row) left) (close (b .rows))
-
-rest-last : (b : Book) (row : ℕ) → restOf b row 0 ≡ close (b .rows)
-unfolding restOf rowsFrom
-rest-last b row = records-none (close (b .rows))
-
-rest-all : (b : Book) → cardOf (rowsOf b) ≡ restOf b 0 (b .rows)
-unfolding restOf rowsOf
-rest-all b = card-is (rowsFrom b 0 (b .rows)) ∙ ap (λ (n : ℕ). rowRecords (rowsFrom b 0 (b .rows)) ++ close n) (rows-length b 0 (b .rows))
-
-module _ (b : Book) (s : Sound b) where
-  row-length : (k : ℕ) → k < b .rows → length (rowRecord (rowAt b k)) ≡ keyAt + getD (b .lengths) k 0
-  row-length k h = row-size (rowAt b k) ∙ ap (λ (n : ℕ). keyAt + n) (key-says b s k h .size)
-
-  rest-length : (row left : ℕ) → row < b .rows → length (restOf b row (suc left)) ≡ keyAt + getD (b .lengths) row 0 + length (restOf b (suc row) left)
-  rest-length row left h =
-      ap length (rest-next b row left) ∙ length-append (rowRecord (rowAt b row)) (restOf b (suc row) left)
-      ∙ ap (λ (n : ℕ). n + length (restOf b (suc row) left)) (row-length row h)
-
-  rest-size : (left row : ℕ) → row + left ≡ b .rows → sizeTo (b .lengths) row + length (restOf b row left) ≡ sizeTo (b .lengths) (b .rows) + closeSize
-  unfolding sizeTo
-  rest-size zero row e =
-      let q : row ≡ b .rows = omega arith in
-      ap₂ (λ (k n : ℕ). sizeTo (b .lengths) k + n) q (ap length (rest-last b row) ∙ close-size (b .rows))
-  rest-size (suc left) row e =
-      let ih = rest-size left (suc row) (omega arith) in
-      let l = rest-length row left (omega arith) in
-      omega arith
-
-  -- the size of a sound book's card, by its key lengths
-  pub card-size : length (cardOf (rowsOf b)) ≡ sizeTo (b .lengths) (b .rows)
-  unfolding sizeTo
-  card-size =
-      let l = ap length (rest-all b) in
-      let m = rest-size (b .rows) 0 (omega arith) in
-      omega arith
+use Rattle.book_card.proofs.Shape.{rowFields, row-fields, closeFields, close-fields, close-size}
+use Rattle.book_card.proofs.Sizes.{restOf, rest-next, rest-last, rest-all, row-length, card-size}
 
 -- ---- a record
 
@@ -130,6 +56,21 @@ module _ (b : Book) (row : ℕ) (w : Within b row) (t : getD (b .lengths) row 0 
       let w₄ = field d target d₃ d₄ (at + receivedAt) (at + sentAt) counterSize _ _ (omega arith) (omega arith) w₃ e₄ in
       let w₅ = field d target d₄ d₅ (at + sentAt) (at + keyAt) counterSize _ _ (omega arith) (omega arith) w₄ e₅ in
       e₆ ∙ ap (λ (x : List ℕ). written (at + keyAt) x d₅) (sym (append-nil _ ∙ key-is b row w t)) ∙ w₅ .rest
+
+-- so are those of the close
+pub close-written : (d d₁ d₂ d₃ : List ℕ) (at rows : ℕ) → at + closeSize ≤ length d
+    → d₁ ≡ written at (le lengthSize (closeSize - lengthSize)) d
+    → d₂ ≡ written (at + kindAt) (le kindSize closeKind) d₁
+    → d₃ ≡ written (at + bodyAt) (le countSize rows) d₂
+    → d₃ ≡ written at (close rows) d
+close-written d d₁ d₂ d₃ at rows fits e₁ e₂ e₃ =
+    let target = written at (close rows) d in
+    let w₀ : Writing d target d at (closeFields rows []) =
+    record { long = refl; rest = ap (λ (x : List ℕ). written at x d) (sym (close-fields rows []) ∙ append-nil (close rows)) } in
+    let w₁ = field d target d d₁ at (at + kindAt) lengthSize _ _ refl (omega arith) w₀ e₁ in
+    let w₂ = field d target d₁ d₂ (at + kindAt) (at + bodyAt) kindSize _ _ (omega arith) (omega arith) w₁ e₂ in
+    let w₃ = field d target d₂ d₃ (at + bodyAt) (at + closeSize) countSize _ _ (omega arith) (omega arith) w₂ e₃ in
+    writing-end d target d₃ (at + closeSize) w₃
 
 -- ---- the rows
 
@@ -198,20 +139,8 @@ module _ (b : Book) (s : Sound b) (old : List ℕ) where
           let q = w .writing .long in
           omega arith
 
-      -- its fields, written one after another, end the card
-      pub rowing-end : (d₁ d₂ d₃ : List ℕ)
-          → d₁ ≡ written at (le lengthSize (closeSize - lengthSize)) new
-          → d₂ ≡ written (at + kindAt) (le kindSize closeKind) d₁
-          → d₃ ≡ written (at + bodyAt) (le countSize (b .rows)) d₂
-          → d₃ ≡ target
-      rowing-end d₁ d₂ d₃ e₁ e₂ e₃ =
-          let l = close-room in
-          let q = w .writing .long in
-          let e : restOf b row (b .rows - row) ≡ closeFields (b .rows) [] = last ∙ sym (append-nil (close (b .rows))) ∙ close-fields (b .rows) [] in
-          let w₁ = field old target new d₁ at (at + kindAt) lengthSize _ _ refl (omega arith) (rw e at (w .writing)) e₁ in
-          let w₂ = field old target d₁ d₂ (at + kindAt) (at + bodyAt) kindSize _ _ (omega arith) (omega arith) w₁ e₂ in
-          let w₃ = field old target d₂ d₃ (at + bodyAt) (at + closeSize) countSize _ _ (omega arith) (omega arith) w₂ e₃ in
-          writing-end old target d₃ (at + closeSize) w₃
+      pub rowing-end : (new′ : List ℕ) → new′ ≡ written at (close (b .rows)) new → new′ ≡ target
+      rowing-end new′ e = e ∙ ap (λ (x : List ℕ). written at x new) (sym last) ∙ w .writing .rest
 
 -- a row in use lies within the lent lists, whatever row count they are lent with
 pub within-any : (b : Book) → Sound b → (k : ℕ) → k < b .rows → Within (bookOf (b .ids) (b .lengths) (b .store) (b .received) (b .sent) 0) k
