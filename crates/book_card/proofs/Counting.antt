@@ -21,7 +21,7 @@ use Rattle.book_card.specs.declared.Front.{Front}
 use Rattle.book_card.specs.declared.Front.the-variants.{Broken, Row as RowFront, Close}
 use Rattle.book_card.specs.declared.Counted.the-variants.{Malformed, Rows as RowCount}
 use Rattle.book_card.proofs.Shape.{GoodRow, front-good}
-use Rattle.book_card.proofs.Says.{goOn, on-none, on-more, front-step, read-from}
+use Rattle.book_card.proofs.Steps.{goOn, on-none, on-more, front-step, in-front, read-is}
 
 -- so many rows stand before `at`, and reading on from there gives the whole answer
 pub record Counting (card : List ℕ) (at rows low : ℕ) : Type 0 where
@@ -32,7 +32,7 @@ pub record Counting (card : List ℕ) (at rows low : ℕ) : Type 0 where
 
 pub counting-start : (card : List ℕ) → Counting card 0 0 0
 counting-start card =
-    record { within = omega arith; few = omega arith; low-fits = omega arith; rest = ap (countedFrom 0) (sym (read-from card)) }
+    record { within = omega arith; few = omega arith; low-fits = omega arith; rest = ap (countedFrom 0) (sym (read-is card ∙ ap cardIn (in-front card))) }
 
 -- no row more: what is counted is malformed
 no-row-more : (n : ℕ) (s : List ℕ) (t : Bool) → Malformed ≡ countedFrom n (cardIn (cond t (ended fault s) (ended fault s)))

@@ -1,9 +1,9 @@
--- `book_card::card_size` meets its contract: each turn keeps `Summing`, the size of the rows passed (proofs/Sizes.antt). The measure is how many rows
+-- `book_card::card_size` meets its contract: each turn keeps `Summing`, the size of the rows passed (proofs/Writes.antt). The measure is how many rows
 -- are left.
 use borrow.Author.Needs.{needs}
 use native.Mathlib.Omega.{arith}
 use Prim.Native.Nat.{_-_}
-use Rattle.book_card.proofs.Sizes.{Summing, summing-start, summing-turn, summing-end}
+use Rattle.book_card.proofs.Writes.{Summing, summing-start, summing-turn, summing-end}
 use Rattle.book_card.proofs.writing.card_size.Statement.{statement}
 use Rattle.book_card.proofs.writing.card_size.Tie as tie
 

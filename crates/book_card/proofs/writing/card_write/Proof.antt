@@ -1,9 +1,9 @@
--- `book_card::card_write` meets its contract: each end is one case of `writeOf`, with the room as `roomAfter` says (proofs/Writes.antt).
+-- `book_card::card_write` meets its contract: each end is one case of `writeOf`, with the room as `roomAfter` says (proofs/Puts.antt).
 use native.Mathlib.Omega.{arith}
 use denote.Ref.{now}
 use borrow.Author.Needs.{needs}
 use Rattle.key_book.specs.Book.{Book, bookOf}
-use Rattle.book_card.proofs.Writes.{told-sound, rows-in, size-is, write-unsound, write-no-room, write-done}
+use Rattle.book_card.proofs.Puts.{told-sound, rows-in, size-is, write-unsound, write-no-room, write-done}
 use Rattle.book_card.proofs.writing.card_write.Statement.{statement}
 use Rattle.book_card.proofs.writing.card_write.Tie as tie
 

@@ -1,10 +1,10 @@
--- `book_card::put_card` meets its contract: each turn keeps `Rowing`, that with what is left written the whole card is (proofs/Writes.antt). The measure is
+-- `book_card::put_card` meets its contract: each turn keeps `Rowing`, that with what is left written the whole card is (proofs/Puts.antt). The measure is
 -- how many rows are left.
 use borrow.Author.Needs.{needs}
 use native.Mathlib.Omega.{arith}
 use Prim.Native.Nat.{_-_}
 use Rattle.key_book.specs.Book.{bookOf}
-use Rattle.book_card.proofs.Writes.{Rowing, rowing-start, rowing-room, rowing-turn, rowing-end, close-room, within-any}
+use Rattle.book_card.proofs.Puts.{Rowing, rowing-start, rowing-room, rowing-turn, rowing-end, close-room, within-any}
 use Rattle.book_card.proofs.writing.put_card.Statement.{statement}
 use Rattle.book_card.proofs.writing.put_card.Tie as tie
 

@@ -1,9 +1,9 @@
--- `book_card::put_row` meets its contract: the fields, written one after another, are the record (proofs/Writes.antt).
+-- `book_card::put_row` meets its contract: the fields, written one after another, are the record (proofs/Puts.antt).
 use native.Mathlib.Omega.{arith}
 use native.Mathlib.Nat.{add-sub-cancel-left}
 use mathlib.Core.Path.{refl}
 use borrow.Author.Needs.{needs}
-use Rattle.book_card.proofs.Writes.{row-written}
+use Rattle.book_card.proofs.Puts.{row-written}
 use Rattle.book_card.proofs.writing.put_row.Statement.{statement}
 use Rattle.book_card.proofs.writing.put_row.Tie as tie
 
