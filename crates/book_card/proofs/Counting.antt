@@ -16,12 +16,12 @@ use Rattle.key_book.specs.Limits.{rowsMost}
 use Rattle.book_card.specs.Card.{Row}
 use Rattle.book_card.specs.Layout.{keyAt, closeSize}
 use Rattle.book_card.specs.Reader.{frontOf, rowFront, CardEnd, closed, fault, FrontRows}
-use Rattle.book_card.specs.Reader.{ended, withRow, stepFrom, frontFrom, rowsInFront, rowsBy, cardIn, readCard, countedFrom}
+use Rattle.book_card.specs.Reader.{ended, withRow, stepFrom, frontFrom, rowsBy, cardIn, readCard, countedFrom}
 use Rattle.book_card.specs.declared.Front.{Front}
 use Rattle.book_card.specs.declared.Front.the-variants.{Broken, Row as RowFront, Close}
 use Rattle.book_card.specs.declared.Counted.the-variants.{Malformed, Rows as RowCount}
-use Rattle.book_card.proofs.Shape.{GoodRow, FrontGood, front-good}
-use Rattle.book_card.proofs.Says.{goOn, front-step}
+use Rattle.book_card.proofs.Shape.{GoodRow, front-good}
+use Rattle.book_card.proofs.Steps.{goOn, on-none, on-more, front-step, in-front, read-is}
 
 -- so many rows stand before `at`, and reading on from there gives the whole answer
 pub record Counting (card : List ℕ) (at rows low : ℕ) : Type 0 where
@@ -31,8 +31,8 @@ pub record Counting (card : List ℕ) (at rows low : ℕ) : Type 0 where
   pub rest : countedFrom rows (cardIn (frontFrom (rowsMost - rows) low rows (drop at card))) ≡ countedFrom 0 (readCard card)
 
 pub counting-start : (card : List ℕ) → Counting card 0 0 0
-unfolding readCard rowsInFront
-counting-start card = record { within = omega arith; few = omega arith; low-fits = omega arith; rest = refl }
+counting-start card =
+    record { within = omega arith; few = omega arith; low-fits = omega arith; rest = ap (countedFrom 0) (sym (read-is card ∙ ap cardIn (in-front card))) }
 
 -- no row more: what is counted is malformed
 no-row-more : (n : ℕ) (s : List ℕ) (t : Bool) → Malformed ≡ countedFrom n (cardIn (cond t (ended fault s) (ended fault s)))
@@ -72,32 +72,30 @@ module _ (card : List ℕ) (at rows low : ℕ) (j : Counting card at rows low) w
           ∙ (rw (length-drop at card, eq-eqb (length card - at) closeSize h, eq-eqb m rows k) at (on-front (Close m) e))
 
   module _ (id size : ℕ) (e : RowFront id size ≡ frontOf rest) where
+    row-good : Bytes card → GoodRow rest id size
+    row-good b = rw (sym e) at (front-good rest (bytes-drop at card b))
+
     pub row-within : Bytes card → at + (keyAt + size) ≤ length card
-    unfolding FrontGood
     row-within b =
         let w = j .within in
         let d = length-drop at card in
-        let g : GoodRow rest id size = rw (sym e) at (front-good rest (bytes-drop at card b)) in
-        let k = g .long in
+        let k = row-good b .long in
         omega arith
 
     pub count-many : rows ≡ rowsMost → Malformed ≡ countedFrom 0 (readCard card)
-    unfolding goOn
     count-many h =
         let z : rowsMost - rows ≡ 0 = omega arith in
-        no-row-more rows rest (ltb id low)
-        ∙ ap (λ (n : ℕ). countedFrom rows (cardIn (stepFrom (goOn n rest) low rows rest (RowFront id size)))) (sym z) ∙ on-front (RowFront id size) e
+        no-row-more rows rest (ltb id low) ∙ (rw (z, on-none) at (on-front (RowFront id size) e))
 
     module _ (h : rows ≢ rowsMost) where
       pub count-low : id < low → Malformed ≡ countedFrom 0 (readCard card)
       count-low l = rw (lt-ltb id low l) at (on-front (RowFront id size) e)
 
       pub counting-turn : low ≤ id → Bytes card → Counting card (at + keyAt + size) (rows + 1) (id + 1)
-      unfolding FrontGood goOn
       counting-turn l b =
           let w = row-within b in
           let f = j .few in
-          let g : GoodRow rest id size = rw (sym e) at (front-good rest (bytes-drop at card b)) in
+          let g = row-good b in
           let i = g .fits .id-fits in
           let n = g .named in
           let few : rows < rowsMost = omega arith in
@@ -107,8 +105,7 @@ module _ (card : List ℕ) (at rows low : ℕ) (j : Counting card at rows low) w
           let r : suc id ≡ id + 1 = omega arith in
           let o = frontFrom (rowsMost - (rows + 1)) (suc id) (suc rows) (drop (keyAt + size) rest) in
           let s : countedFrom rows (cardIn (withRow (rowFront rest size) o)) ≡ countedFrom 0 (readCard card) =
-          ap (λ (t : Bool). countedFrom rows (cardIn (cond t (ended fault rest) (withRow (rowFront rest size) o)))) (sym (le-ltb id low l))
-          ∙ ap (λ (n : ℕ). countedFrom rows (cardIn (stepFrom (goOn n rest) low rows rest (RowFront id size)))) (sym z) ∙ on-front (RowFront id size) e in
+          rw (le-ltb id low l, z, on-more) at (on-front (RowFront id size) e) in
           record {
             within = omega arith;
             few = omega arith;

@@ -17,7 +17,7 @@ use Rattle.key_book.proofs.Says.{sized-says}
 use Rattle.book_card.specs.Layout.{keyAt}
 use Rattle.book_card.specs.Card.{Row, rowRecord, rowRecords, close, cardOf, noRow, InOrder, RowFits}
 use Rattle.book_card.specs.Reader.{frontOf, rowFront, readCard, countedFrom}
-use Rattle.book_card.specs.Reading.{withRowSet, loaded, readAs, readOf, rowsIn, readBy, readBook}
+use Rattle.book_card.specs.Reading.{setRow, loaded, readAs, readOf, rowsIn, readBy, readBook}
 use Rattle.book_card.specs.declared.Front.{Front}
 use Rattle.book_card.specs.declared.Front.the-variants.{Row as RowFront}
 use Rattle.book_card.specs.declared.Counted.the-variants.{Malformed, Rows as RowCount}
@@ -127,11 +127,11 @@ module _ {card : List ℕ} {n : ℕ} {b c : Book} {at row : ℕ} (f : Filling ca
         record { within = room-for c (f .sizes) row r in-ids t; small = omega arith; long = omega arith }
 
     -- the row set
-    pub filling-turn : (c′ : Book) → c′ ≡ withRowSet c row (rowFront (drop at card) size) → Filling card n b c′ (at + keyAt + size) (row + 1)
+    pub filling-turn : (c′ : Book) → c′ ≡ setRow c row (rowFront (drop at card) size) → Filling card n b c′ (at + keyAt + size) (row + 1)
     filling-turn c′ e₁ =
         let t = turn .long in
         let to = fits .key-to in
-        let e₂ : c′ ≡ withRowSet c row r = e₁ ∙ ap (withRowSet c row) is-row in
+        let e₂ : c′ ≡ setRow c row r = e₁ ∙ ap (setRow c row) is-row in
         let p : at + keyAt + size ≡ at + (keyAt + size) = omega arith in
         let q : row + 1 ≡ suc row = omega arith in
         record {

@@ -1,8 +1,10 @@
 pub mod Fronts
 pub mod Shape
+pub mod Steps
 pub mod Says
 pub mod Counting
 pub mod Slots
 pub mod Loads
 pub mod Fills
 pub mod Writes
+pub mod Puts

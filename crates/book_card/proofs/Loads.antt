@@ -16,7 +16,7 @@ use Rattle.key_book.specs.Laws.{Within}
 use Rattle.book_card.specs.Layout.{idSize, counterSize, bodyAt, receivedAt, sentAt, keyAt}
 use Rattle.book_card.specs.Card.{Row}
 use Rattle.book_card.specs.Reader.{rowFront}
-use Rattle.book_card.specs.Reading.{slotsOf, withRowSet, loaded}
+use Rattle.book_card.specs.Reading.{slotsOf, setRow, loaded}
 use Rattle.book_card.proofs.Slots.{slotOf, slot-length, slots-none, slots-cons}
 
 -- ---- one row
@@ -30,8 +30,8 @@ module _ (card : List ℕ) (at size row : ℕ) (b : Book) (w : Within b row) (sm
       → store₁ ≡ written (slotSize * row) (take size (drop (at + keyAt) card)) (b .store)
       → store₂ ≡ written (slotSize * row + size) (zeros (slotSize - size)) store₁
       → bookOf (set (b .ids) row id) (set (b .lengths) row size) store₂ (set (b .received) row received) (set (b .sent) row sent) 0
-      ≡ withRowSet b row (rowFront (drop at card) size)
-  unfolding withRowSet
+      ≡ setRow b row (rowFront (drop at card) size)
+  unfolding setRow
   row-set id received sent store₁ store₂ ei er en e₁ e₂ =
       let r = rowFront (drop at card) size in
       let room = w .in-store in
@@ -60,12 +60,12 @@ module _ (b : Book) (z : Sized b) (k : ℕ) (r : Row) (h : k < length (b .ids)) 
   slot-room : slotSize * k + length (slotOf (r .key)) ≤ length (b .store)
   slot-room = let w = room-for in let l = slot-length (r .key) t in omega arith
 
-  pub row-set-long : length (withRowSet b k r .ids) ≡ length (b .ids)
-  unfolding withRowSet
+  pub row-set-long : length (setRow b k r .ids) ≡ length (b .ids)
+  unfolding setRow
   row-set-long = length-set (b .ids) k (r .id)
 
-  pub row-set-sized : Sized (withRowSet b k r)
-  unfolding withRowSet
+  pub row-set-sized : Sized (setRow b k r)
+  unfolding setRow
   row-set-sized =
       let i = length-set (b .ids) k (r .id) in
       record {
@@ -98,20 +98,22 @@ set-all b rows =
 pub set-none : (b : Book) (k n : ℕ) → k ≡ n → setFrom b k [] ≡ bookOf (b .ids) (b .lengths) (b .store) (b .received) (b .sent) n
 unfolding setFrom
 set-none b k n e =
-    let s : written (slotSize * k) (slotsOf []) (b .store) ≡ b .store = ap (λ (x : List ℕ). written (slotSize * k) x (b .store)) slots-none ∙ written-none _ _ in
+    let s : written (slotSize * k) (slotsOf []) (b .store) ≡ b .store =
+    ap (λ (x : List ℕ). written (slotSize * k) x (b .store)) slots-none ∙ written-none _ _ in
     let m : k + 0 ≡ n = omega arith in
     λ i. bookOf (written-none k (b .ids) i) (written-none k (b .lengths) i) (s i) (written-none k (b .received) i) (written-none k (b .sent) i) (m i)
 
 -- the first of them set, then the others
 pub set-cons : (b : Book) → Sized b → (k : ℕ) (r : Row) (more : List Row) → k < length (b .ids) → length (r .key) ≤ slotSize
-    → setFrom b k (r ∷ more) ≡ setFrom (withRowSet b k r) (k + 1) more
-unfolding setFrom withRowSet
+    → setFrom b k (r ∷ more) ≡ setFrom (setRow b k r) (k + 1) more
+unfolding setFrom setRow
 set-cons b z k r more h t =
     let w = room-for b z k r h t in
     let l = slot-length (r .key) t in
     let q : slotSize * k + length (slotOf (r .key)) ≡ slotSize * (k + 1) = omega arith in
     let room = w .in-store in
-    let s : written (slotSize * k) (slotsOf (r ∷ more)) (b .store) ≡ written (slotSize * (k + 1)) (slotsOf more) (written (slotSize * k) (slotOf (r .key)) (b .store)) =
+    let first = written (slotSize * k) (slotOf (r .key)) (b .store) in
+    let s : written (slotSize * k) (slotsOf (r ∷ more)) (b .store) ≡ written (slotSize * (k + 1)) (slotsOf more) first =
     ap (λ (x : List ℕ). written (slotSize * k) x (b .store)) (slots-cons r more)
     ∙ sym (written-join (slotSize * k) (slotSize * (k + 1)) (slotOf (r .key)) (slotsOf more) (b .store) q (omega arith)) in
     let n : k + suc (length more) ≡ k + 1 + length more = omega arith in

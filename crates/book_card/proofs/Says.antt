@@ -22,6 +22,7 @@ use Rattle.book_card.specs.Reader.{ended, withRow, stepFrom, frontFrom, 
 use Rattle.book_card.specs.Laws.{FrontSays, CardSays, MalformedSays}
 use Rattle.book_card.specs.declared.Front.{Front}
 use Rattle.book_card.specs.declared.Front.the-variants.{Broken, Row as RowFront, Close}
+use Rattle.book_card.proofs.Steps.{goOn, on-none, on-more, front-step, in-front, read-is}
 use Rattle.book_card.proofs.Shape.{close-size, records-cons, records-none, card-is, row-read, front-of-row, row-of-front, front-of-close}
 use Rattle.book_card.proofs.Shape.{GoodRow, GoodClose, FrontGood, front-good}
 
@@ -67,16 +68,6 @@ in-order-after rows o = ascends-after 0 rows (λ k h. omega arith) (o .fit) (o .
 pub after-in-order : (rows : List Row) → After 0 rows → length rows ≤ rowsMost → InOrder rows
 after-in-order rows a l = record { few = l; fit = λ k h. after-at 0 rows a k h .1; ascend = after-ascends 0 rows a }
 
--- what comes of a row, however many are still allowed
-unfoldable pub goOn : ℕ → List ℕ → Row → ℕ → ℕ → List ℕ → FrontRows
-goOn zero s r l m t = ended fault s
-goOn (suc left) s r l m t = withRow r (frontFrom left l m t)
-
-pub front-step : (left low n : ℕ) (s : List ℕ) → frontFrom left low n s ≡ stepFrom (goOn left s) low n s (frontOf s)
-unfolding frontFrom goOn
-front-step zero low n s = refl
-front-step (suc left) low n s = refl
-
 -- rows, and what is in front of the bytes that follow them
 abbrev ahead : List Row → FrontRows → FrontRows
 ahead rows f = record { rows = rows ++ f .rows; ends = f .ends; rest = f .rest }
@@ -89,7 +80,7 @@ lowAfter low (r ∷ rows) = lowAfter (suc (r .id)) rows
 -- rows in order whose records stand in front are read, and reading goes on behind them
 reads : (rows : List Row) (left low n : ℕ) (t : List ℕ) → After low rows → length rows ≤ left
     → frontFrom left low n (rowRecords rows ++ t) ≡ ahead rows (frontFrom (left - length rows) (lowAfter low rows) (n + length rows) t)
-unfolding After goOn lowAfter
+unfolding After lowAfter
 reads [] left low n t a l =
     let z : left ≡ left - 0 = omega arith in
     ap (frontFrom left low n) (records-none t) ∙ ap₂ (λ (x y : ℕ). frontFrom x low y t) z (sym (add-zero n))
@@ -103,8 +94,9 @@ reads (r ∷ rows) (suc left) low n t a l =
     let d : left - length rows ≡ suc left - suc (length rows) = omega arith in
     ap (frontFrom (suc left) low n) (records-cons r rows t)
     ∙ front-step (suc left) low n s ∙ ap (stepFrom (goOn (suc left) s) low n s) (front-of-row r u f)
-    ∙ ap (λ (b : Bool). cond b (ended fault s) (withRow (rowFront s size) (frontFrom left (suc (r .id)) (suc n) (drop (keyAt + size) s))))
+    ∙ ap (λ (b : Bool). cond b (ended fault s) (goOn (suc left) s (rowFront s size) (suc (r .id)) (suc n) (drop (keyAt + size) s)))
     (le-ltb (r .id) low (a .0))
+    ∙ on-more left s (rowFront s size) (suc (r .id)) (suc n) (drop (keyAt + size) s)
     ∙ ap₂ (λ (q : Row) (l : List ℕ). withRow q (frontFrom left (suc (r .id)) (suc n) l)) (row-of-front r u f) (row-read r u f .rest)
     ∙ ap (withRow r) (reads rows left (suc (r .id)) (suc n) t (a .1 .1) (omega arith))
     ∙ ap₂ (λ (x y : ℕ). ahead (r ∷ rows) (frontFrom x (lowAfter (suc (r .id)) rows) y t)) d e
@@ -112,17 +104,17 @@ reads (r ∷ rows) (suc left) low n t a l =
 reads-close : (left low n : ℕ) → n < 256 ^ countSize → frontFrom left low n (close n) ≡ ended closed (close n)
 reads-close left low n h =
     let e : frontOf (close n) ≡ Close n = ap frontOf (sym (append-nil (close n))) ∙ front-of-close n [] h in
-    front-step left low n (close n) ∙ ap (stepFrom (goOn left (close n)) low n (close n)) e ∙ rw (eq-eqb _ closeSize (close-size n), eq-eqb n n refl)
+    front-step left low n (close n) ∙ ap (stepFrom (goOn left (close n)) low n (close n)) e
+    ∙ rw (eq-eqb _ closeSize (close-size n), eq-eqb n n refl)
 
 -- the rows of a card stand in front of it and end closed
 reads-card : (rows : List Row) → InOrder rows → rowsInFront (cardOf rows) ≡ record { rows = rows; ends = closed; rest = close (length rows) }
-unfolding rowsInFront
 reads-card rows o =
     let f = o .few in
     let z : 0 + length rows ≡ length rows = omega arith in
     let left = rowsMost - length rows in
     let low = lowAfter 0 rows in
-    ap (frontFrom rowsMost 0 0) (card-is rows)
+    in-front (cardOf rows) ∙ ap (frontFrom rowsMost 0 0) (card-is rows)
     ∙ reads rows rowsMost 0 0 (close (length rows)) (in-order-after rows o) f
     ∙ ap (λ (n : ℕ). ahead rows (frontFrom left low n (close (length rows)))) z ∙ ap (ahead rows) (reads-close left low (length rows) (omega arith))
     ∙ ap (λ (x : List Row). record { rows = x; ends = closed; rest = close (length rows) }) (append-nil rows)
@@ -136,7 +128,13 @@ record Good (left low n : ℕ) (s : List ℕ) (f : FrontRows) : Type 0 where
 
 good-fault : (left low n : ℕ) (s : List ℕ) → Good left low n s (ended fault s)
 unfolding After
-good-fault left low n s = record { ordered = tt; few = omega arith; bytes = sym (records-none s); closes = λ e. absurd (let z : _≡_ {A = ℕ} 0 1 = cc in omega arith) }
+good-fault left low n s =
+    record {
+      ordered = tt;
+      few = omega arith;
+      bytes = sym (records-none s);
+      closes = λ e. absurd (let z : _≡_ {A = ℕ} 0 1 = cc in omega arith);
+    }
 
 good-closed : (left low n m : ℕ) (s : List ℕ) → GoodClose s m → length s ≡ closeSize → m ≡ n → Good left low n s (ended closed s)
 unfolding After
@@ -166,7 +164,6 @@ good-onto left low n id size s f l g a =
 module _ (left low n : ℕ) (s : List ℕ) where
   good-step : ((id size : ℕ) → low ≤ id → GoodRow s id size → Good left low n s (goOn left s (rowFront s size) (suc id) (suc n) (drop (keyAt + size) s)))
       → (f : Front) → FrontGood s f → Good left low n s (stepFrom (goOn left s) low n s f)
-  unfolding FrontGood
   good-step ih Broken g = good-fault left low n s
   good-step ih (Close m) g = on (eqb (length s) closeSize) refl (eqb m n) refl
     where
@@ -182,26 +179,25 @@ module _ (left low n : ℕ) (s : List ℕ) where
       on false p = ih id size (ltb-false id low p) g
 
 good : (left low n : ℕ) (s : List ℕ) → Bytes s → Good left low n s (frontFrom left low n s)
-unfolding goOn
-good zero low n s h = rw (front-step zero low n s) (good-step zero low n s (λ id size l g. good-fault zero low n s) (frontOf s) (front-good s h))
+good zero low n s h = rw (front-step zero low n s) (good-step zero low n s (λ id size l g. rw on-none (good-fault zero low n s)) (frontOf s) (front-good s h))
 good (suc left) low n s h =
     rw (front-step (suc left) low n s)
     (good-step (suc left) low n s
-    (λ id size l g. good-onto left low n id size s _ l g (good left (suc id) (suc n) (drop (keyAt + size) s) (bytes-drop (keyAt + size) s h)))
+    (λ id size l g. rw on-more
+    (good-onto left low n id size s _ l g (good left (suc id) (suc n) (drop (keyAt + size) s) (bytes-drop (keyAt + size) s h))))
     (frontOf s) (front-good s h))
 
 pub front-says : FrontSays
-unfolding rowsInFront
 front-says s h =
     let f = rowsInFront s in
-    let g = good rowsMost 0 0 s h in
+    let g : Good rowsMost 0 0 s f = rw (in-front s) (good rowsMost 0 0 s h) in
     let o = after-in-order (f .rows) (g .ordered) (g .few) in
     let z : 0 + length (f .rows) ≡ length (f .rows) = omega arith in
     record {
       order = o;
       bytes = g .bytes;
       most = λ rows rest p e.
-          let q = reads rows rowsMost 0 0 rest (in-order-after rows p) (p .few) in
+          let q = in-front (rowRecords rows ++ rest) ∙ reads rows rowsMost 0 0 rest (in-order-after rows p) (p .few) in
           sym (ap (λ (x : List ℕ). take (length rows) (rowsInFront x .rows)) e
           ∙ ap (λ (x : FrontRows). take (length rows) (x .rows)) q ∙ take-append-seam rows _);
       ends-closed = (
@@ -223,12 +219,11 @@ card-closed f rows e = on (f .ends) refl e
     on fault p q = absurd (let z : _≡_ {A = ℕ} 0 1 = cc in omega arith)
 
 pub card-says : CardSays
-unfolding readCard
 card-says s h rows = (
-  λ e. let c = card-closed (rowsInFront s) rows e in
+  λ e. let c = card-closed (rowsInFront s) rows (sym (read-is s) ∙ e) in
       let f = front-says s h in
       (rw (← c .those) (f .order), f .ends-closed .0 (c .ended-closed) ∙ ap cardOf (c .those)),
-  λ c. ap (λ (x : List ℕ). cardIn (rowsInFront x)) (c .1) ∙ ap cardIn (reads-card rows (c .0)),
+  λ c. read-is s ∙ ap (λ (x : List ℕ). cardIn (rowsInFront x)) (c .1) ∙ ap cardIn (reads-card rows (c .0)),
 )
 
 -- bytes of which no rows are read read as none

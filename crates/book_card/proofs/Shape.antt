@@ -138,7 +138,7 @@ pub record GoodRow (s : List ℕ) (id size : ℕ) : Type 0 where
 pub record GoodClose (s : List ℕ) (n : ℕ) : Type 0 where
   pub bytes : s ≡ close n ++ drop closeSize s
 
-unfoldable pub FrontGood : List ℕ → Front → Type 0
+abbrev pub FrontGood : List ℕ → Front → Type 0
 FrontGood s Broken = Unit {0}
 FrontGood s (RowFront id size) = GoodRow s id size
 FrontGood s (Close n) = GoodClose s n
@@ -195,7 +195,6 @@ module _ (s : List ℕ) (h : Bytes s) (h₀ : bodyAt ≤ length s) (h₁ : sizeI
       → (w : Bool) → ltb (sizeIn s) (keyAt - lengthSize + 1) ≡ w → (x : Bool) → ltb (keyAt - lengthSize + slotSize) (sizeIn s) ≡ x
       → FrontGood s (cond t (cond v (Close (littleAt s bodyAt countSize)) Broken)
       (cond u (cond w Broken (cond x Broken (RowFront (littleAt s bodyAt idSize) (sizeIn s - (keyAt - lengthSize))))) Broken))
-  unfolding FrontGood
   good-by true p u q true r w y x z = good-close (eqb-true _ _ p) (eqb-true _ _ r)
   good-by true p u q false r w y x z = tt
   good-by false p false q v r w y x z = tt
@@ -207,7 +206,6 @@ module _ (s : List ℕ) (h : Bytes s) (h₀ : bodyAt ≤ length s) (h₁ : sizeI
   good-by-kind = good-by _ refl _ refl _ refl _ refl _ refl
 
 pub front-good : (s : List ℕ) → Bytes s → FrontGood s (frontOf s)
-unfolding FrontGood
 front-good s h = on (ltb (length s) bodyAt) refl (ltb (length s - lengthSize) (sizeIn s)) refl
   where
     on : (t : Bool) → ltb (length s) bodyAt ≡ t → (u : Bool) → ltb (length s - lengthSize) (sizeIn s) ≡ u → FrontGood s (frontOf s)

@@ -21,8 +21,8 @@ slotsOf [] = []
 slotsOf (r ∷ rows) = filled slotSize (r .key) ++ slotsOf rows
 
 -- a book with one row set, and none in use
-unfoldable pub withRowSet : Book → ℕ → Row → Book
-withRowSet b k r =
+unfoldable pub setRow : Book → ℕ → Row → Book
+setRow b k r =
     bookOf
     (set (b .ids) k (r .id))
     (set (b .lengths) k (length (r .key)))

@@ -7,7 +7,7 @@ ghost use Rattle.key_book.specs.Book.{bookOf, Sized};
 ghost use Rattle.key_book.specs.Laws.{Within};
 ghost use Rattle.book_card.specs.Layout.{keyAt};
 ghost use Rattle.book_card.specs.Reader.{rowFront, readCard, countedFrom};
-ghost use Rattle.book_card.specs.Reading.{readOf, readBook, rowsIn, withRowSet, loaded, rowsGiven};
+ghost use Rattle.book_card.specs.Reading.{readOf, readBook, rowsIn, setRow, loaded, rowsGiven};
 use crate::BODY_AT;
 use crate::COUNTER_SIZE;
 use crate::Counted;
@@ -40,7 +40,7 @@ fn set_row(
     ensures { λ _. ⌜
         (let b = bookOf (now (ids .entry)) (now (lengths .entry)) (now (store .entry)) (now (received .entry)) (now (sent .entry)) 0 in
         bookOf (now (ids .exit)) (now (lengths .exit)) (now (store .exit)) (now (received .exit)) (now (sent .exit)) 0
-        ≡ withRowSet b row (rowFront (drop at (now (card .entry))) size))
+        ≡ setRow b row (rowFront (drop at (now (card .entry))) size))
         ⌝ }
 {
     ids[row] = octets::little(card, at + BODY_AT, ID_SIZE) as u32;

@@ -6,8 +6,8 @@ ghost use Rattle.octets.specs.Bytes.{written};
 ghost use Rattle.key_book.specs.Limits.{slotSize, rowsMost};
 ghost use Rattle.key_book.specs.Book.{bookOf, Sound};
 ghost use Rattle.key_book.specs.Laws.{Within};
-ghost use Rattle.book_card.specs.Layout.{keyAt};
-ghost use Rattle.book_card.specs.Card.{rowRecord, cardOf};
+ghost use Rattle.book_card.specs.Layout.{keyAt, closeSize};
+ghost use Rattle.book_card.specs.Card.{rowRecord, close, cardOf};
 ghost use Rattle.book_card.specs.Writing.{rowAt, rowsOf, sizeTo, writeOf, roomAfter};
 use crate::BODY_AT;
 use crate::CLOSE_KIND;
@@ -61,16 +61,29 @@ fn put_row(
         × (now (card .exit) ≡ written at (rowRecord (rowAt b row)) (now (card .entry))))
         ⌝ }
 {
+    let id = ids[row] as u64;
     let size = lengths[row] as usize;
+    let record = KEY_AT + size;
     let slot = SLOT_SIZE * row;
+    let slot_end = slot + size;
     let key_at = at + KEY_AT;
     octets::put_little(card, at, LENGTH_SIZE, (KEY_AT - LENGTH_SIZE + size) as u64);
     octets::put_little(card, at + KIND_AT, KIND_SIZE, ROW_KIND);
-    octets::put_little(card, at + BODY_AT, ID_SIZE, ids[row] as u64);
+    octets::put_little(card, at + BODY_AT, ID_SIZE, id);
     octets::put_little(card, at + RECEIVED_AT, COUNTER_SIZE, received[row]);
     octets::put_little(card, at + SENT_AT, COUNTER_SIZE, sent[row]);
-    octets::copy(&store[slot..slot + size], card, key_at);
-    KEY_AT + size
+    octets::copy(&store[slot..slot_end], card, key_at);
+    record
+}
+
+// Writes the close at a place of a card, for so many rows.
+fn put_close(rows: usize, card: &mut [u8], at: usize)
+    requires { ⌜ at + closeSize ≤ length (now card) ⌝ }
+    ensures { λ _. ⌜ now (card .exit) ≡ written at (close rows) (now (card .entry)) ⌝ }
+{
+    octets::put_little(card, at, LENGTH_SIZE, (CLOSE_SIZE - LENGTH_SIZE) as u64);
+    octets::put_little(card, at + KIND_AT, KIND_SIZE, CLOSE_KIND);
+    octets::put_little(card, at + BODY_AT, COUNT_SIZE, rows as u64);
 }
 
 // Writes the whole card of a sound book to the front of a room that it fits.
@@ -99,9 +112,7 @@ fn put_card(
         at = at + put_row(ids, lengths, store, received, sent, row, card, at);
         row = row + 1;
     }
-    octets::put_little(card, at, LENGTH_SIZE, (CLOSE_SIZE - LENGTH_SIZE) as u64);
-    octets::put_little(card, at + KIND_AT, KIND_SIZE, CLOSE_KIND);
-    octets::put_little(card, at + BODY_AT, COUNT_SIZE, rows as u64);
+    put_close(rows, card, at);
 }
 
 // Writes the card of a book to the front of a lent room and answers its size. Later bytes of the room stay as they were.

@@ -80,25 +80,6 @@ pub count-rows-spec : {M : Type 1} → statement M
 count-rows-spec =
     tie.close
     (tie.spec
-    Inv-loop
-    μ-loop
-    (λ c. counting-start _)
-    (λ c κs. omega arith)
-    (λ c. search needs)
-    returns
-    (λ c. search needs)
-    (λ c. omega arith)
-    returns-2
-    returns-3
-    returns-4
-    (λ c. search needs)
-    returns-5
-    (λ c. search needs)
-    returns-6
-    (λ c. search needs)
-    (λ c. search needs)
-    add-at
-    add-at-2
-    (λ c. omega arith)
-    (λ c. omega arith)
-    loop-again)
+    Inv-loop μ-loop (λ c. counting-start _) (λ c κs. omega arith) (λ c. search needs) returns (λ c. search needs) (λ c. omega arith) returns-2
+    returns-3 returns-4 (λ c. search needs) returns-5 (λ c. search needs) returns-6 (λ c. search needs) (λ c. search needs) add-at add-at-2
+    (λ c. omega arith) (λ c. omega arith) loop-again)

@@ -12,30 +12,31 @@ abbrev lent : tie.Start → Book
 lent s = bookOf (now (s .args .ids)) (now (s .args .lengths)) (now (s .args .store)) (now (s .args .received)) (now (s .args .sent)) 0
 
 returns : tie.Need-returns
-returns c = read-sizes (lent (c .before .before .before .before .before .before .before .before .before .before .before .before .before)) _ _ (c .before .sizes-agree .ensures) (c .if1 .taken)
+returns c =
+    let s = c .before .before .before .before .before .before .before .before .before .before .before .before .before in
+    read-sizes (lent s) _ _ (c .before .sizes-agree .ensures) (c .if1 .taken)
 
 returns-2 : tie.Need-returns-2
 returns-2 c =
     let q = c .before .before in
-    read-malformed (lent (q .before .before .before .before .before .before .before .before .before .before .before .before .before .before)) _ _ (q .before .before .sizes-agree .ensures) (q .before .if1 .left) (sym (c .enum-told .given .1) ∙ q .count-rows .ensures)
+    let s = q .before .before .before .before .before .before .before .before .before .before .before .before .before .before in
+    read-malformed (lent s) _ _ (q .before .before .sizes-agree .ensures) (q .before .if1 .left) (sym (c .enum-told .given .1) ∙ q .count-rows .ensures)
 
 returns-3 : tie.Need-returns-3
 returns-3 c =
     let q = c .before .before .before .before in
     let k = q .before .before .before .before .before .before .before .before .before .before .before .before .before in
-    let read = counted-rows _ (bytes-lent (now (k .before .args .card)) (k .shared-slice-known .given)) _ (sym (c .before .before .counted .given .1) ∙ q .count-rows .ensures) in
+    let read = counted-rows _ (bytes-lent (now (k .before .args .card)) (k .shared-slice-known .given)) _
+    (sym (c .before .before .counted .given .1) ∙ q .count-rows .ensures) in
     read-no-room (lent (k .before)) _ _ (q .before .before .sizes-agree .ensures) (q .before .if1 .left) _ read (search needs)
 
 fill-requires : tie.Need-fill-requires
 fill-requires c κs =
-    let q = c .before .before .before .before .before .before .before .before .before in
-    let s = q .before .before .before .before .before .before .before .before .before .before .before .before .before .before in (
-      sym (c .before .before .before .before .before .before .before .counted .given .1) ∙ q .count-rows .ensures,
-      (
-        told-sized (lent s) (now (s .args .card)) _ (q .before .before .sizes-agree .ensures) (q .before .if1 .left),
-        c .before .before .before .before .before .if2 .left,
-      ),
-    )
+    let m = c .before .before .before .before .before in
+    let q = m .before .before .before .before in
+    let s = q .before .before .before .before .before .before .before .before .before .before .before .before .before .before in
+    let sizes = told-sized (lent s) (now (s .args .card)) _ (q .before .before .sizes-agree .ensures) (q .before .if1 .left) in
+    (sym (m .before .before .counted .given .1) ∙ q .count-rows .ensures, (sizes, m .if2 .left))
 
 returns-4 : tie.Need-returns-4
 returns-4 c =
@@ -43,39 +44,16 @@ returns-4 c =
     let m = d .before .before .before .before .before .before in
     let q = m .before .before .before .before in
     let k = q .before .before .before .before .before .before .before .before .before .before .before .before .before in
-    let read = counted-rows _ (bytes-lent (now (k .before .args .card)) (k .shared-slice-known .given)) _ (sym (m .before .before .counted .given .1) ∙ q .count-rows .ensures) in
+    let read = counted-rows _ (bytes-lent (now (k .before .args .card)) (k .shared-slice-known .given)) _
+    (sym (m .before .before .counted .given .1) ∙ q .count-rows .ensures) in
     read-done (lent (k .before)) _ _ (q .before .before .sizes-agree .ensures) (q .before .if1 .left) _ read (m .if2 .left) _ (d .fill .ensures)
 
 pub card-read-spec : {M : Type 1} → statement M
 card-read-spec =
     tie.close
     (tie.spec
-    (λ c κs. search needs)
-    (λ c. search needs)
-    (λ c. search needs)
-    (λ c. search needs)
-    (λ c. search needs)
-    (λ c. search needs)
-    returns
-    (λ c κs. search needs)
-    (λ c. search needs)
-    (λ c. search needs)
-    (λ c. search needs)
-    (λ c. search needs)
-    (λ c. search needs)
-    (λ c. search needs)
-    (λ c. search needs)
-    returns-2
-    (λ c. search needs)
-    (λ c. search needs)
-    (λ c. search needs)
-    (λ c. search needs)
-    (λ c. search needs)
-    returns-3
-    fill-requires
-    (λ c. search needs)
-    (λ c. search needs)
-    (λ c. search needs)
-    (λ c. search needs)
-    (λ c. search needs)
-    returns-4)
+    (λ c κs. search needs) (λ c. search needs) (λ c. search needs) (λ c. search needs) (λ c. search needs) (λ c. search needs) returns
+    (λ c κs. search needs) (λ c. search needs) (λ c. search needs) (λ c. search needs) (λ c. search needs) (λ c. search needs)
+    (λ c. search needs) (λ c. search needs) returns-2 (λ c. search needs) (λ c. search needs) (λ c. search needs) (λ c. search needs)
+    (λ c. search needs) returns-3 fill-requires (λ c. search needs) (λ c. search needs) (λ c. search needs) (λ c. search needs)
+    (λ c. search needs) returns-4)

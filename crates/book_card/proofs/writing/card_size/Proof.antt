@@ -1,4 +1,4 @@
--- `book_card::card_size` meets its contract: each turn keeps `Summing`, the size of the rows passed (proofs/Sizes.antt). The measure is how many rows
+-- `book_card::card_size` meets its contract: each turn keeps `Summing`, the size of the rows passed (proofs/Writes.antt). The measure is how many rows
 -- are left.
 use borrow.Author.Needs.{needs}
 use native.Mathlib.Omega.{arith}
@@ -17,14 +17,9 @@ pub card-size-spec : {M : Type 1} → statement M
 card-size-spec =
     tie.close
     (tie.spec
-    Inv-loop
-    μ-loop
-    (λ c. summing-start _ _)
-    (λ c. omega arith)
+    Inv-loop μ-loop (λ c. summing-start _ _) (λ c. omega arith)
     (λ c. omega (arith, c .shared-slice-known .given (c .before .before .loop .row)))
     (λ c. omega (arith, c .shared-slice-known .given (c .before .before .loop .row)))
-    (λ c. omega (arith, c .shared-slice-known .given (c .before .before .loop .row)))
-    (λ c. omega arith)
-    (λ c. omega arith)
+    (λ c. omega (arith, c .shared-slice-known .given (c .before .before .loop .row))) (λ c. omega arith) (λ c. omega arith)
     (λ c. summing-turn _ _ _ _ (c .before .before .loop .inv) (search needs) (omega (arith, c .shared-slice-known .given (c .before .before .loop .row))))
     (λ c. summing-end _ _ _ _ (c .before .loop .inv) (search needs)))

@@ -1,10 +1,10 @@
--- `book_card::put_card` meets its contract: each turn keeps `Rowing`, that with what is left written the whole card is (proofs/Writes.antt). The measure is
+-- `book_card::put_card` meets its contract: each turn keeps `Rowing`, that with what is left written the whole card is (proofs/Puts.antt). The measure is
 -- how many rows are left.
 use borrow.Author.Needs.{needs}
 use native.Mathlib.Omega.{arith}
 use Prim.Native.Nat.{_-_}
 use Rattle.key_book.specs.Book.{bookOf}
-use Rattle.book_card.proofs.Writes.{Rowing, rowing-start, rowing-room, rowing-turn, rowing-end, close-room, within-any}
+use Rattle.book_card.proofs.Puts.{Rowing, rowing-start, rowing-room, rowing-turn, rowing-end, close-room, within-any}
 use Rattle.book_card.proofs.writing.put_card.Statement.{statement}
 use Rattle.book_card.proofs.writing.put_card.Tie as tie
 
@@ -17,10 +17,9 @@ abbrev μ-loop : tie.MeasureT-loop
 put-row-requires : tie.Need-put-row-requires Inv-loop μ-loop
 put-row-requires c κs =
     let l = c .before in
-    let s = l .before .before .before .before .before .before .before .before in (
-      within-any _ (s .pre .0) _ (l .loop-test .taken),
-      (s .pre .0 .keys-to _ (l .loop-test .taken), rowing-room _ (s .pre .0) _ _ _ _ (l .before .loop .inv) (l .loop-test .taken)),
-    )
+    let s = l .before .before .before .before .before .before .before .before in
+    let h = l .loop-test .taken in
+    (within-any _ (s .pre .0) _ h, (s .pre .0 .keys-to _ h, rowing-room _ (s .pre .0) _ _ _ _ (l .before .loop .inv) h))
 
 add-at : tie.Need-add-at Inv-loop μ-loop
 add-at c =
@@ -35,44 +34,21 @@ loop-again c =
     let p = c .before .before .put-row .ensures in
     rowing-turn _ (s .pre .0) _ _ _ _ (l .before .loop .inv) (l .loop-test .taken) _ _ (p .0) (p .1)
 
-put-little-requires-2 : tie.Need-put-little-requires-2 Inv-loop μ-loop
-put-little-requires-2 c κs =
-    let l = c .before .before .before .before .before in
-    omega (arith, close-room _ (l .before .before .before .before .before .before .before .before .pre .0) _ _ _ _ (l .before .loop .inv) (l .loop-test .left), c .before .before .before .put-little .kept .0)
-
-put-little-requires-3 : tie.Need-put-little-requires-3 Inv-loop μ-loop
-put-little-requires-3 c κs =
-    let l = c .before .before .before .before .before .before .before .before .before in
-    omega (
-      arith,
-      close-room _ (l .before .before .before .before .before .before .before .before .pre .0) _ _ _ _ (l .before .loop .inv) (l .loop-test .left),
-      c .before .before .before .before .before .before .before .put-little .kept .0,
-      c .before .before .before .put-little2 .kept .0,
-    )
+put-close-requires : tie.Need-put-close-requires Inv-loop μ-loop
+put-close-requires c κs =
+    let l = c .before in
+    let s = l .before .before .before .before .before .before .before .before in
+    close-room _ (s .pre .0) _ _ _ _ (l .before .loop .inv) (l .loop-test .left)
 
 returns : tie.Need-returns Inv-loop μ-loop
 returns c =
-    let l = c .before .before .before .before .before .before .before .before .before .before .before .before in
-    rowing-end _ (l .before .before .before .before .before .before .before .before .pre .0) _ _ _ _ (l .before .loop .inv) (l .loop-test .left) _ _ _ (c .before .before .before .before .before .before .before .before .before .before .put-little .ensures)
-    (c .before .before .before .before .before .before .put-little2 .ensures) (c .before .before .put-little3 .ensures)
+    let l = c .before .before .before .before in
+    let s = l .before .before .before .before .before .before .before .before in
+    rowing-end _ (s .pre .0) _ _ _ _ (l .before .loop .inv) (l .loop-test .left) _ (c .before .before .put-close .ensures)
 
 pub put-card-spec : {M : Type 1} → statement M
 put-card-spec =
     tie.close
     (tie.spec
-    Inv-loop
-    μ-loop
-    (λ c. let s = c .before .before .before .before .before .before in rowing-start _ (s .pre .0) _ (s .pre .1))
-    put-row-requires
-    add-at
-    (λ c. omega arith)
-    (λ c. omega arith)
-    loop-again
-    (λ c. omega arith)
-    (λ c κs. let l = c .before in omega (arith, close-room _ (l .before .before .before .before .before .before .before .before .pre .0) _ _ _ _ (l .before .loop .inv) (l .loop-test .left)))
-    (λ c. let l = c .before .before .before .before .before in omega (arith, close-room _ (l .before .before .before .before .before .before .before .before .pre .0) _ _ _ _ (l .before .loop .inv) (l .loop-test .left)))
-    put-little-requires-2
-    (λ c. let l = c .before .before .before .before .before .before .before .before .before in omega (arith, close-room _ (l .before .before .before .before .before .before .before .before .pre .0) _ _ _ _ (l .before .loop .inv) (l .loop-test .left)))
-    put-little-requires-3
-    (λ c. search needs)
-    returns)
+    Inv-loop μ-loop (λ c. let s = c .before .before .before .before .before .before in rowing-start _ (s .pre .0) _ (s .pre .1))
+    put-row-requires add-at (λ c. omega arith) (λ c. omega arith) loop-again put-close-requires (λ c. search needs) returns)
