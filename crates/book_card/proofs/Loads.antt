@@ -8,7 +8,8 @@ use lib.ListN.{length, take, drop, set, length-set, length-drop}
 use lib.Seq.{drop-drop, length-take-le}
 use Rattle.octets.specs.Bytes.{written, zeros}
 use Rattle.octets.specs.Numbers.{littleAt}
-use Rattle.octets.proofs.Written.{length-written, written-cons, written-join, written-none, written-filled}
+use Rattle.octets.proofs.Written.{length-written, written-cons, written-join, written-none}
+use Rattle.octets.proofs.Filled.{written-filled}
 use Rattle.octets.proofs.LowFirst.{number-from}
 use Rattle.key_book.specs.Limits.{slotSize}
 use Rattle.key_book.specs.Book.{Book, bookOf, Sized}

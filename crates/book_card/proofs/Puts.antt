@@ -9,7 +9,7 @@ use lib.ListN.{length, getD, take, drop, length-append}
 use Rattle.refusal.specs.declared.Refusal.the-variants.{UnsoundBook, NoRoomForCard}
 use Rattle.octets.specs.Bytes.{written}
 use Rattle.octets.specs.Numbers.{le}
-use Rattle.octets.proofs.Written.{written-first}
+use Rattle.octets.proofs.Written.{written-front}
 use Rattle.octets.proofs.LowFirst.{le-length}
 use Rattle.octets.proofs.Loops.{Writing, writing-run, writing-end}
 use Rattle.key_book.specs.Limits.{rowsMost, slotSize}
@@ -185,4 +185,4 @@ module _ (b : Book) (room : List ℕ) where
       unfolding writeOf
       write-done l after f =
           let d = ended (Size size) (rw (sym e ∙ not-false t h, size-is, le-ltb (length room) size l)) in
-          (d .0, f ∙ written-first (cardOf (rowsOf b)) room ∙ ap (λ (n : ℕ). cardOf (rowsOf b) ++ drop n room) size-is ∙ d .1)
+          (d .0, f ∙ written-front (cardOf (rowsOf b)) room ∙ ap (λ (n : ℕ). cardOf (rowsOf b) ++ drop n room) size-is ∙ d .1)

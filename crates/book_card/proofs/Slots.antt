@@ -7,7 +7,7 @@ use native.Mathlib.Omega.{arith}
 use lib.ListN.{length, getD, drop, length-append}
 use lib.Seq.{drop-drop, drop-at}
 use Rattle.octets.specs.Bytes.{filled}
-use Rattle.octets.proofs.Written.{length-filled}
+use Rattle.octets.proofs.Filled.{length-filled}
 use Rattle.key_book.specs.Limits.{slotSize}
 use Rattle.book_card.specs.Card.{Row, noRow}
 use Rattle.book_card.specs.Reading.{slotsOf}

@@ -16,20 +16,21 @@ use Rattle.card_laws.specs.Laws.{RowSet, LeftFrom, RowsLeft, RowsRead, R
 use Rattle.book_card.proofs.Says.{card-says}
 use Rattle.book_card.proofs.Slots.{Fit, slots-length, slots-at}
 use Rattle.octets.specs.Bytes.{written, filled}
-use Rattle.octets.proofs.Written.{length-written, written-first, length-filled, filled-in, filled-behind}
+use Rattle.octets.proofs.Written.{length-written, written-front}
+use Rattle.octets.proofs.Filled.{length-filled, filled-in, filled-behind}
 use Rattle.card_laws.proofs.Largest.{card-bytes}
 use Rattle.card_laws.proofs.Answers.{given, gives, gives-book}
 
 -- elements written at the front of a list, and the old ones behind them
 front-new : (new old : List ℕ) (k : ℕ) → k < length new → getD (written 0 new old) k 0 ≡ getD new k 0
-front-new new old k h = ap (λ (l : List ℕ). getD l k 0) (written-first new old) ∙ List·getD-append new (drop (length new) old) 0 k h
+front-new new old k h = ap (λ (l : List ℕ). getD l k 0) (written-front new old) ∙ List·getD-append new (drop (length new) old) 0 k h
 
 front-left : (new old : List ℕ) (n : ℕ) → length new ≡ n → length new ≤ length old → LeftFrom n old (written 0 new old)
 front-left new old n e h =
     record {
       same = λ k l.
           let d : length new + (k - length new) ≡ k = omega arith in
-          ap (λ (l : List ℕ). getD l k 0) (written-first new old)
+          ap (λ (l : List ℕ). getD l k 0) (written-front new old)
           ∙ ap (λ (m : ℕ). getD (new ++ drop (length new) old) m 0) (sym d)
           ∙ getD-append-add new (drop (length new) old) (k - length new) 0
           ∙ getD-drop (length new) old (k - length new) 0

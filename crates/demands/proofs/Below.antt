@@ -4,10 +4,6 @@ use mathlib.Core.List.{List}
 use mathlib.Core.Option.{some, Option·none-ne-some, Option·some-injective}
 use Prim.Native.Nat.{ℕ}
 use native.Mathlib.Omega.{arith}
-use lib.ListN.{length}
-use Rattle.md5.specs.Message.{md5, output}
-use Rattle.hmac_md5.specs.Hmac.{hmac}
-use Rattle.dhcp_message.specs.Layout.{macSize}
 use Rattle.dhcp_message.specs.Said.{Said, refused, says, saidOf, named, formOf, formSays, formNames}
 use Rattle.dhcp_message.specs.declared.Auth.{Auth}
 use Rattle.dhcp_message.specs.declared.Form.{Form}
@@ -16,11 +12,6 @@ use Rattle.dhcp_message.proofs.Seals.{form-says}
 
 pub never : {X : Type 0} → _≡_ {A = ℕ} 0 1 → X
 never e = absurd (omega arith)
-
--- a MAC has 16 bytes
-pub hmac-size : (key text : List ℕ) → length (hmac key text) ≡ macSize
-unfolding hmac md5 output
-hmac-size key text = refl
 
 -- ---- a message's form, by what it says
 

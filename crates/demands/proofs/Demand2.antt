@@ -20,7 +20,7 @@ use Rattle.key_book.specs.Book.{Book, Lent, Sound, keyOf}
 use Rattle.key_book.proofs.Says.{row-says, rows-within, key-is}
 use Rattle.demands.specs.Accepts.{Names, Seals}
 use Rattle.demands.specs.Demand2.{Demand2}
-use Rattle.demands.proofs.Below.{hmac-size}
+use Rattle.hmac_md5.proofs.Masks.{hmac-size}
 use Rattle.demands.proofs.Stages.{check-accepts, end-check, accepted-accepts, key-names, end-key, keyed-names}
 use Rattle.demands.proofs.Stages.{SealedBy, seal-seals, end-seal, sealed-by}
 

@@ -18,7 +18,7 @@ use Rattle.md5.specs.declared.Fed.{Fed}
 use Rattle.md5.specs.declared.Finished.{Finished}
 use Rattle.md5.specs.Block.{blockSize}
 use Rattle.md5.specs.Entries.{digestMost, noDigest, feedOf, finishOf, md5Of}
-use Rattle.md5.proofs.Promises.{feed-taken, feed-refused, finish-taken, finish-refused, md5-taken, md5-refused}
+use Rattle.md5.proofs.Answers.{feed-taken, feed-refused, finish-taken, finish-refused, md5-taken, md5-refused}
 use Rattle.hmac_md5.specs.declared.Mac.{Mac}
 use Rattle.hmac_md5.specs.Hmac.{keyMost, hmacOf}
 use Rattle.hmac_md5.proofs.Masks.{hmac-key-refused, hmac-text-refused, hmac-taken}

@@ -26,7 +26,8 @@ use Rattle.delayed_auth.specs.Seal.{Outcome, sealOf}
 use Rattle.demands.specs.Accepts.{Names}
 use Rattle.demands.specs.Dependence.{SameSecrets, SameForCheck, SameForSeal, SameInUse, Dependence}
 use Rattle.demands.specs.Demand1.{Claims}
-use Rattle.demands.proofs.Below.{never, hmac-size, said-form}
+use Rattle.hmac_md5.proofs.Masks.{hmac-size}
+use Rattle.demands.proofs.Below.{never, said-form}
 use Rattle.demands.proofs.Stages.{CheckEnd, check-unsound, check-refused, check-unknown, check-replay, check-wrong, check-accepts}
 use Rattle.demands.proofs.Stages.{check-end, end-check, KeyEnd, key-unsound, key-refused, key-unknown, key-names, key-end, end-key}
 use Rattle.demands.proofs.Stages.{SealEnd, seal-unsound, seal-refused, seal-unknown, seal-spent, seal-seals, seal-end, end-seal}

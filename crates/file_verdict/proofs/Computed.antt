@@ -4,17 +4,18 @@ use mathlib.Core.Path.{refl}
 use native.Mathlib.Omega.{arith}
 use lib.ListN.{replicate, length-replicate}
 use Rattle.md5.specs.Word.{rotl, auxiliary, wordNo, additive, rotations}
-use Rattle.md5.specs.Block.{stepWith, stepAt, steps, round, compress, wordAt, loadTo, load, blocks}
+use Rattle.md5.specs.Block.{stepWith, stepAt, steps, round, compress, loadTo, load, blocks}
 use Rattle.md5.specs.Message.{md5, padded, padding, output}
 use Rattle.hmac_md5.specs.Hmac.{masked, hmac}
 use Rattle.octets.specs.Bytes.{written, filled}
-use Rattle.octets.specs.Numbers.{value, littleAt}
+use Rattle.octets.specs.Numbers.{le, value, littleAt, bigAt}
 use Rattle.dhcp_message.specs.Options.{decodeAt}
 use Rattle.dhcp_message.specs.Message.{checkedTokens, checkedOf}
 use Rattle.dhcp_message.specs.Said.{saidBy, saidOf, formOf}
 use Rattle.dhcp_message.specs.Image.{imageOf}
 use Rattle.key_book.specs.Book.{sound, sized, ascending, keySizes, allBelow, placeFrom, rowIn, keyFits, keyIn}
-use Rattle.delayed_auth.specs.Check.{sameBytes, judgedRow, judgedSaid, judgedSound, checkOf}
+use Rattle.delayed_auth.specs.Admit.{admittedSaid}
+use Rattle.delayed_auth.specs.Check.{sameBytes, judgedRow, judgedSaid, checkOf}
 use Rattle.book_card.specs.Reader.{frontOf, frontFrom, rowsInFront, readCard}
 use Rattle.book_card.specs.Reading.{slotsOf, loaded, readOf, rowsIn, readBook}
 use Rattle.file_verdict.specs.Files.{readable, loadedOf, bookLoaded, messageLine, lineFor}
@@ -22,9 +23,9 @@ use Rattle.file_verdict.specs.Example9.{Example9}
 use Rattle.file_verdict.proofs.Contents.{readable-fits, readable-too-large}
 
 pub example-9 : Example9
-unfolding hmac masked md5 padded padding blocks compress round steps stepAt stepWith rotl auxiliary wordNo additive rotations load loadTo wordAt
+unfolding hmac masked md5 padded padding blocks compress round steps stepAt stepWith rotl auxiliary wordNo additive rotations load loadTo
     output saidOf checkedOf checkedTokens decodeAt saidBy formOf imageOf written sound sized ascending keySizes allBelow placeFrom rowIn keyFits keyIn
-    sameBytes judgedRow judgedSaid judgedSound checkOf value littleAt frontOf frontFrom rowsInFront readCard filled slotsOf loaded readOf rowsIn
+    sameBytes judgedRow judgedSaid admittedSaid checkOf le value littleAt bigAt frontOf frontFrom rowsInFront readCard filled slotsOf loaded readOf rowsIn
     readBook readable loadedOf bookLoaded messageLine lineFor
 example-9 = record {
   put-right = refl;

@@ -1,5 +1,5 @@
 -- Laws of the entries' answers: each by the limit on its total, and as the code comes to it.
-use mathlib.Core.Path.{_≡_, sym}
+use mathlib.Core.Path.{_≡_, refl, sym}
 use mathlib.Core.Logic.{_≢_}
 use mathlib.Core.List.{List, _∷_, _++_}
 use Prim.Native.Nat.{ℕ, _+_, _-_, _*_, _/_, _%_, _≤_, _<_}
@@ -19,7 +19,7 @@ use Rattle.md5.specs.declared.Digest.{Digest}
 use Rattle.md5.specs.declared.Fed.{Fed}
 use Rattle.md5.specs.Block.{blockSize}
 use Rattle.md5.specs.Message.{padding, padded, output, md5}
-use Rattle.md5.specs.Entries.{digestMost, fresh, absorb, noDigest, feedOf, finishOf, md5Of}
+use Rattle.md5.specs.Entries.{digestMost, fresh, absorb, digestSize, noDigest, feedOf, finishOf, md5Of}
 use Rattle.md5.proofs.Absorb.{fresh-long, fresh-total, absorb-fresh, absorb-total, absorb-append}
 
 -- ---- the entries' answers, by the limit
@@ -47,6 +47,10 @@ md5-taken s h = rw (le-leb (length s) digestMost h)
 pub md5-refused : (s : List ℕ) → digestMost < length s → md5Of s ≡ record { number = numberOf TooLong; digest = noDigest }
 unfolding md5Of
 md5-refused s h = rw (lt-leb (length s) digestMost h)
+
+pub md5-size : (s : List ℕ) → length (md5 s) ≡ digestSize
+unfolding md5 output le
+md5-size s = refl
 
 pub padded-long : (s : List ℕ) → length (padded s) ≡ blockSize * (1 + (length s + 8) / blockSize)
 unfolding padded padding

@@ -1,13 +1,13 @@
 -- Laws of zeros, alone and behind a list.
 use mathlib.Core.Path.{_≡_, refl, sym, ap, _∙_}
 use mathlib.Core.List.{List, _∷_, _++_}
-use Prim.Native.Nat.{ℕ, zero, suc, _+_, _-_, _≤_}
+use Prim.Native.Nat.{ℕ, zero, suc, _+_, _-_, _≤_, _<_}
 use native.Mathlib.Nat.{zero-add}
 use native.Mathlib.Omega.{arith}
-use lib.ListN.{length, take, drop, length-append, length-replicate}
-use lib.Seq.{take-at, drop-at, length-take-le}
+use lib.ListN.{length, getD, take, drop, length-append, length-replicate, getD-replicate, List·getD-append}
+use lib.Seq.{take-at, drop-at, length-take-le, getD-append-add}
 use Rattle.octets.specs.Bytes.{written, zeros, filled}
-use Rattle.octets.proofs.Written.{written-last}
+use Rattle.octets.proofs.Written.{written-last, written-join}
 
 pub take-zeros : (m n : ℕ) → m ≤ n → take m (zeros n) ≡ zeros m
 take-zeros zero n h = refl
@@ -48,3 +48,22 @@ cleared-from at old h =
     let e = length-take-le at old h in
     written-last at (zeros (length old - at)) old (omega (arith, length-replicate {A = ℕ} (length old - at) 0))
     ∙ ap (λ (n : ℕ). take at old ++ zeros (length old - n)) (sym e)
+
+-- its bytes, and how it is written, the list first
+module _ (size : ℕ) (s : List ℕ) (fits : length s ≤ size) where
+  pub filled-in : (i : ℕ) → i < length s → getD (filled size s) i 0 ≡ getD s i 0
+  unfolding filled
+  filled-in i h = List·getD-append s (zeros (size - length s)) 0 i h
+
+  pub filled-behind : (i : ℕ) → length s ≤ i → i < size → getD (filled size s) i 0 ≡ 0
+  unfolding filled
+  filled-behind i h l =
+      let d : length s + (i - length s) ≡ i = omega arith in
+      ap (λ (m : ℕ). getD (s ++ zeros (size - length s)) m 0) (sym d)
+      ∙ getD-append-add s (zeros (size - length s)) (i - length s) 0
+      ∙ getD-replicate (size - length s) (i - length s) 0 0 (omega arith)
+
+  pub written-filled : (at : ℕ) (old : List ℕ) → at + size ≤ length old
+      → written (at + length s) (zeros (size - length s)) (written at s old) ≡ written at (filled size s) old
+  unfolding filled
+  written-filled at old h = written-join at (at + length s) s (zeros (size - length s)) old refl (omega arith)

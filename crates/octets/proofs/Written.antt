@@ -6,10 +6,8 @@ use native.Mathlib.Numerals.{add-one}
 use native.Mathlib.Omega.{arith}
 use mathlib.Core.List.{List, [], _∷_, _++_, append-assoc, append-nil}
 use lib.ListN.{length, take, drop, set, length-append, length-drop, take-append-drop, drop-of-length-le}
-use lib.ListN.{getD, length-replicate, getD-replicate, List·getD-append}
 use lib.Seq.{sets, sets-eq, length-take-le, take-all, take-append-le, take-append-add, drop-append-le, drop-append-add, take-at, drop-at, drop-drop, set-split}
-use lib.Seq.{getD-append-add}
-use Rattle.octets.specs.Bytes.{written, zeros, filled}
+use Rattle.octets.specs.Bytes.{written}
 
 pub length-written : (at : ℕ) (new old : List ℕ) → at + length new ≤ length old → length (written at new old) ≡ length old
 unfolding written
@@ -190,29 +188,3 @@ written-front new old = ap (λ (n : ℕ). new ++ drop n old) (zero-add (length n
 pub written-parts : (at : ℕ) (new old : List ℕ) → written at new old ≡ take at old ++ (new ++ drop (at + length new) old)
 unfolding written
 written-parts at new old = refl
-
-pub written-first : (new old : List ℕ) → written 0 new old ≡ new ++ drop (length new) old
-written-first = written-front
-
--- zeros behind a list: its size, its bytes, and how it is written, the list first
-module _ (size : ℕ) (s : List ℕ) (fits : length s ≤ size) where
-  pub length-filled : length (filled size s) ≡ size
-  unfolding filled
-  length-filled = length-append s (zeros (size - length s)) ∙ ap (λ (n : ℕ). length s + n) (length-replicate (size - length s) 0) ∙ omega arith
-
-  pub filled-in : (i : ℕ) → i < length s → getD (filled size s) i 0 ≡ getD s i 0
-  unfolding filled
-  filled-in i h = List·getD-append s (zeros (size - length s)) 0 i h
-
-  pub filled-behind : (i : ℕ) → length s ≤ i → i < size → getD (filled size s) i 0 ≡ 0
-  unfolding filled
-  filled-behind i h l =
-      let d : length s + (i - length s) ≡ i = omega arith in
-      ap (λ (m : ℕ). getD (s ++ zeros (size - length s)) m 0) (sym d)
-      ∙ getD-append-add s (zeros (size - length s)) (i - length s) 0
-      ∙ getD-replicate (size - length s) (i - length s) 0 0 (omega arith)
-
-  pub written-filled : (at : ℕ) (old : List ℕ) → at + size ≤ length old
-      → written (at + length s) (zeros (size - length s)) (written at s old) ≡ written at (filled size s) old
-  unfolding filled
-  written-filled at old h = written-join at (at + length s) s (zeros (size - length s)) old refl (omega arith)

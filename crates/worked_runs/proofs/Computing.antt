@@ -1,9 +1,9 @@
 -- What the worked runs are computed with: `unfolding computing` opens every definition from a check and a seal down to MD5 and the bytes of a message.
 use Prim.Native.Nat.{ℕ}
-use Rattle.octets.specs.Bytes.{written}
-use Rattle.octets.specs.Numbers.{be, bigAt}
+use Rattle.octets.specs.Bytes.{written, filled}
+use Rattle.octets.specs.Numbers.{le, value, littleAt, be, bigAt}
 use Rattle.md5.specs.Word.{rotl, auxiliary, wordNo, additive, rotations}
-use Rattle.md5.specs.Block.{stepWith, stepAt, steps, round, compress, wordAt, loadTo, load, blocks}
+use Rattle.md5.specs.Block.{stepWith, stepAt, steps, round, compress, loadTo, load, blocks}
 use Rattle.md5.specs.Message.{md5, padded, padding, output}
 use Rattle.hmac_md5.specs.Hmac.{masked, hmac}
 use Rattle.dhcp_message.specs.Options.{decodeAt}
@@ -16,7 +16,7 @@ use Rattle.delayed_auth.specs.Check.{sameBytes, judgedRow, judgedSaid, checkOf}
 use Rattle.delayed_auth.specs.Seal.{planRow, planForm, planOf, sealedMessage, sealOf}
 
 unfoldable pub computing : ℕ
-unfolding rotl auxiliary wordNo additive rotations stepWith stepAt steps round compress wordAt loadTo load blocks md5 padded padding output masked hmac
-    written be bigAt decodeAt checkedTokens checkedOf saidBy saidOf named formOf imageOf allBelow sized ascending keySizes sound placeFrom rowIn keyFits keyIn
+unfolding rotl auxiliary wordNo additive rotations stepWith stepAt steps round compress loadTo load blocks md5 padded padding output masked hmac
+    written filled le value littleAt be bigAt decodeAt checkedTokens checkedOf saidBy saidOf named formOf imageOf allBelow sized ascending keySizes sound placeFrom rowIn keyFits keyIn
     admittedSaid admittedForm sameBytes judgedRow judgedSaid checkOf planRow planForm planOf sealedMessage sealOf
 computing = 0
