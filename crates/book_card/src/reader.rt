@@ -3,18 +3,9 @@ ghost use mathlib.Core.Path.{_≡_};
 ghost use Prim.Native.Nat.{_≤_};
 ghost use lib.ListN.{length, drop};
 ghost use Rattle.book_card.specs.Reader.{frontOf, readCard, countedFrom};
-use crate::BODY_AT;
-use crate::CLOSE_KIND;
-use crate::CLOSE_SIZE;
-use crate::COUNT_SIZE;
 use crate::Counted;
 use crate::Front;
-use crate::ID_SIZE;
-use crate::KEY_AT;
-use crate::KIND_AT;
-use crate::KIND_SIZE;
-use crate::LENGTH_SIZE;
-use crate::ROW_KIND;
+use crate::layout;
 use key_book::ROWS_MOST;
 use key_book::SLOT_SIZE;
 
@@ -24,33 +15,35 @@ pub(crate) fn front_at(card: &[u8], at: usize) -> Front
     ensures { λ r. ⌜ r ≡ frontOf (drop at (now (card .entry))) ⌝ }
 {
     let left = card.len() - at;
-    if left < BODY_AT {
+    if left < layout::BODY_AT {
         return Front::Broken;
     }
-    let size = octets::little(card, at, LENGTH_SIZE) as usize;
-    if left - LENGTH_SIZE < size {
+    let size = octets::little(card, at, layout::LENGTH_SIZE) as usize;
+    if left - layout::LENGTH_SIZE < size {
         return Front::Broken;
     }
-    let kind = octets::little(card, at + KIND_AT, KIND_SIZE);
-    if kind == CLOSE_KIND {
-        if size != CLOSE_SIZE - LENGTH_SIZE {
+    let kind = octets::little(card, at + layout::KIND_AT, layout::KIND_SIZE);
+    if kind == layout::CLOSE_KIND {
+        if size != layout::CLOSE_SIZE - layout::LENGTH_SIZE {
             return Front::Broken;
         }
-        return Front::Close(octets::little(card, at + BODY_AT, COUNT_SIZE) as usize);
+        return Front::Close(
+            octets::little(card, at + layout::BODY_AT, layout::COUNT_SIZE) as usize,
+        );
     }
-    if kind != ROW_KIND {
+    if kind != layout::ROW_KIND {
         return Front::Broken;
     }
-    if size < KEY_AT - LENGTH_SIZE + 1 {
+    if size < layout::KEY_AT - layout::LENGTH_SIZE + 1 {
         return Front::Broken;
     }
-    if KEY_AT - LENGTH_SIZE + SLOT_SIZE < size {
+    if layout::KEY_AT - layout::LENGTH_SIZE + SLOT_SIZE < size {
         return Front::Broken;
     }
-    let id = octets::little(card, at + BODY_AT, ID_SIZE) as u32;
+    let id = octets::little(card, at + layout::BODY_AT, layout::ID_SIZE) as u32;
     Front::Row {
         id,
-        size: size - (KEY_AT - LENGTH_SIZE),
+        size: size - (layout::KEY_AT - layout::LENGTH_SIZE),
     }
 }
 
@@ -69,7 +62,7 @@ pub(crate) fn count_rows(card: &[u8]) -> Counted
                 return Counted::Malformed;
             }
             Front::Close(count) => {
-                if card.len() - at != CLOSE_SIZE {
+                if card.len() - at != layout::CLOSE_SIZE {
                     return Counted::Malformed;
                 }
                 if count != rows {
@@ -85,7 +78,7 @@ pub(crate) fn count_rows(card: &[u8]) -> Counted
                     return Counted::Malformed;
                 }
                 low = id as u64 + 1;
-                at = at + KEY_AT + size;
+                at = at + layout::KEY_AT + size;
                 rows = rows + 1;
             }
         }

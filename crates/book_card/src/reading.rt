@@ -8,15 +8,10 @@ ghost use Rattle.key_book.specs.Laws.{Within};
 ghost use Rattle.book_card.specs.Layout.{keyAt};
 ghost use Rattle.book_card.specs.Reader.{rowFront, readCard, countedFrom};
 ghost use Rattle.book_card.specs.Reading.{readOf, readBook, rowsIn, setRow, loaded, rowsGiven};
-use crate::BODY_AT;
-use crate::COUNTER_SIZE;
 use crate::Counted;
 use crate::Front;
-use crate::ID_SIZE;
-use crate::KEY_AT;
-use crate::RECEIVED_AT;
 use crate::ReadAnswer;
-use crate::SENT_AT;
+use crate::layout;
 use crate::reader::count_rows;
 use crate::reader::front_at;
 use key_book::SLOT_SIZE;
@@ -43,12 +38,12 @@ fn set_row(
         ≡ setRow b row (rowFront (drop at (now (card .entry))) size))
         ⌝ }
 {
-    ids[row] = octets::little(card, at + BODY_AT, ID_SIZE) as u32;
+    ids[row] = octets::little(card, at + layout::BODY_AT, layout::ID_SIZE) as u32;
     lengths[row] = size as u8;
-    received[row] = octets::little(card, at + RECEIVED_AT, COUNTER_SIZE);
-    sent[row] = octets::little(card, at + SENT_AT, COUNTER_SIZE);
+    received[row] = octets::little(card, at + layout::RECEIVED_AT, layout::COUNTER_SIZE);
+    sent[row] = octets::little(card, at + layout::SENT_AT, layout::COUNTER_SIZE);
     let slot = SLOT_SIZE * row;
-    let key_at = at + KEY_AT;
+    let key_at = at + layout::KEY_AT;
     octets::copy(&card[key_at..key_at + size], store, slot);
     octets::clear(store, slot + size, SLOT_SIZE - size);
 }
@@ -76,12 +71,12 @@ fn fill(
     let mut row: usize = 0;
     while row < rows {
         let front = front_at(card, at);
-        let Front::Row { id, size } = front else {
+        let Front::Row { id: _, size } = front else {
             // Not reached: the card has this row.
             return;
         };
         set_row(card, at, size, row, ids, lengths, store, received, sent);
-        at = at + KEY_AT + size;
+        at = at + layout::KEY_AT + size;
         row = row + 1;
     }
 }
