@@ -5,7 +5,16 @@ ghost use lib.ListN.{length, drop};
 ghost use Rattle.book_card.specs.Reader.{frontOf, readCard, countedFrom};
 use crate::Counted;
 use crate::Front;
-use crate::layout;
+use crate::layout::BODY_AT;
+use crate::layout::CLOSE_KIND;
+use crate::layout::CLOSE_SIZE;
+use crate::layout::COUNT_SIZE;
+use crate::layout::ID_SIZE;
+use crate::layout::KEY_AT;
+use crate::layout::KIND_AT;
+use crate::layout::KIND_SIZE;
+use crate::layout::LENGTH_SIZE;
+use crate::layout::ROW_KIND;
 use key_book::ROWS_MOST;
 use key_book::SLOT_SIZE;
 
@@ -15,35 +24,33 @@ pub(crate) fn front_at(card: &[u8], at: usize) -> Front
     ensures { λ r. ⌜ r ≡ frontOf (drop at (now (card .entry))) ⌝ }
 {
     let left = card.len() - at;
-    if left < layout::BODY_AT {
+    if left < BODY_AT {
         return Front::Broken;
     }
-    let size = octets::little(card, at, layout::LENGTH_SIZE) as usize;
-    if left - layout::LENGTH_SIZE < size {
+    let size = octets::little(card, at, LENGTH_SIZE) as usize;
+    if left - LENGTH_SIZE < size {
         return Front::Broken;
     }
-    let kind = octets::little(card, at + layout::KIND_AT, layout::KIND_SIZE);
-    if kind == layout::CLOSE_KIND {
-        if size != layout::CLOSE_SIZE - layout::LENGTH_SIZE {
+    let kind = octets::little(card, at + KIND_AT, KIND_SIZE);
+    if kind == CLOSE_KIND {
+        if size != CLOSE_SIZE - LENGTH_SIZE {
             return Front::Broken;
         }
-        return Front::Close(
-            octets::little(card, at + layout::BODY_AT, layout::COUNT_SIZE) as usize,
-        );
+        return Front::Close(octets::little(card, at + BODY_AT, COUNT_SIZE) as usize);
     }
-    if kind != layout::ROW_KIND {
+    if kind != ROW_KIND {
         return Front::Broken;
     }
-    if size < layout::KEY_AT - layout::LENGTH_SIZE + 1 {
+    if size < KEY_AT - LENGTH_SIZE + 1 {
         return Front::Broken;
     }
-    if layout::KEY_AT - layout::LENGTH_SIZE + SLOT_SIZE < size {
+    if KEY_AT - LENGTH_SIZE + SLOT_SIZE < size {
         return Front::Broken;
     }
-    let id = octets::little(card, at + layout::BODY_AT, layout::ID_SIZE) as u32;
+    let id = octets::little(card, at + BODY_AT, ID_SIZE) as u32;
     Front::Row {
         id,
-        size: size - (layout::KEY_AT - layout::LENGTH_SIZE),
+        size: size - (KEY_AT - LENGTH_SIZE),
     }
 }
 
@@ -62,7 +69,7 @@ pub(crate) fn count_rows(card: &[u8]) -> Counted
                 return Counted::Malformed;
             }
             Front::Close(count) => {
-                if card.len() - at != layout::CLOSE_SIZE {
+                if card.len() - at != CLOSE_SIZE {
                     return Counted::Malformed;
                 }
                 if count != rows {
@@ -78,7 +85,7 @@ pub(crate) fn count_rows(card: &[u8]) -> Counted
                     return Counted::Malformed;
                 }
                 low = id as u64 + 1;
-                at = at + layout::KEY_AT + size;
+                at = at + KEY_AT + size;
                 rows = rows + 1;
             }
         }

@@ -1,4 +1,4 @@
-// Reading a card into a lent book: `reader` judges the whole card first, then the rows are set one by one.
+// Reading a card into a lent book: the whole card is judged first (`reader`), then the rows are set one by one.
 ghost use mathlib.Core.Path.{_≡_};
 ghost use Prim.Native.Nat.{_+_, _≤_};
 ghost use lib.ListN.{length, drop};
@@ -11,7 +11,12 @@ ghost use Rattle.book_card.specs.Reading.{readOf, readBook, rowsIn, setR
 use crate::Counted;
 use crate::Front;
 use crate::ReadAnswer;
-use crate::layout;
+use crate::layout::BODY_AT;
+use crate::layout::COUNTER_SIZE;
+use crate::layout::ID_SIZE;
+use crate::layout::KEY_AT;
+use crate::layout::RECEIVED_AT;
+use crate::layout::SENT_AT;
 use crate::reader::count_rows;
 use crate::reader::front_at;
 use key_book::SLOT_SIZE;
@@ -38,12 +43,12 @@ fn set_row(
         ≡ setRow b row (rowFront (drop at (now (card .entry))) size))
         ⌝ }
 {
-    ids[row] = octets::little(card, at + layout::BODY_AT, layout::ID_SIZE) as u32;
+    ids[row] = octets::little(card, at + BODY_AT, ID_SIZE) as u32;
     lengths[row] = size as u8;
-    received[row] = octets::little(card, at + layout::RECEIVED_AT, layout::COUNTER_SIZE);
-    sent[row] = octets::little(card, at + layout::SENT_AT, layout::COUNTER_SIZE);
+    received[row] = octets::little(card, at + RECEIVED_AT, COUNTER_SIZE);
+    sent[row] = octets::little(card, at + SENT_AT, COUNTER_SIZE);
     let slot = SLOT_SIZE * row;
-    let key_at = at + layout::KEY_AT;
+    let key_at = at + KEY_AT;
     octets::copy(&card[key_at..key_at + size], store, slot);
     octets::clear(store, slot + size, SLOT_SIZE - size);
 }
@@ -76,7 +81,7 @@ fn fill(
             return;
         };
         set_row(card, at, size, row, ids, lengths, store, received, sent);
-        at = at + layout::KEY_AT + size;
+        at = at + KEY_AT + size;
         row = row + 1;
     }
 }

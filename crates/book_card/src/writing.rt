@@ -10,7 +10,19 @@ ghost use Rattle.book_card.specs.Layout.{keyAt, closeSize};
 ghost use Rattle.book_card.specs.Card.{rowRecord, close, cardOf};
 ghost use Rattle.book_card.specs.Writing.{rowAt, rowsOf, sizeTo, writeOf, roomAfter};
 use crate::WriteAnswer;
-use crate::layout;
+use crate::layout::BODY_AT;
+use crate::layout::CLOSE_KIND;
+use crate::layout::CLOSE_SIZE;
+use crate::layout::COUNT_SIZE;
+use crate::layout::COUNTER_SIZE;
+use crate::layout::ID_SIZE;
+use crate::layout::KEY_AT;
+use crate::layout::KIND_AT;
+use crate::layout::KIND_SIZE;
+use crate::layout::LENGTH_SIZE;
+use crate::layout::RECEIVED_AT;
+use crate::layout::ROW_KIND;
+use crate::layout::SENT_AT;
 use key_book::SLOT_SIZE;
 use refusal::Refusal;
 
@@ -20,10 +32,10 @@ fn card_size(lengths: &[u8], rows: usize) -> usize
     requires { ⌜ rows ≤ rowsMost ⌝ }
     ensures { λ r. ⌜ r ≡ sizeTo (now (lengths .entry)) rows ⌝ }
 {
-    let mut size = layout::CLOSE_SIZE;
+    let mut size = CLOSE_SIZE;
     let mut row: usize = 0;
     while row < rows {
-        size = size + (layout::KEY_AT + lengths[row] as usize);
+        size = size + (KEY_AT + lengths[row] as usize);
         row = row + 1;
     }
     size
@@ -51,30 +63,15 @@ fn put_row(
 {
     let id = ids[row] as u64;
     let size = lengths[row] as usize;
-    let record = layout::KEY_AT + size;
+    let record = KEY_AT + size;
     let slot = SLOT_SIZE * row;
     let slot_end = slot + size;
-    let key_at = at + layout::KEY_AT;
-    octets::put_little(
-        card,
-        at,
-        layout::LENGTH_SIZE,
-        (layout::KEY_AT - layout::LENGTH_SIZE + size) as u64,
-    );
-    octets::put_little(
-        card,
-        at + layout::KIND_AT,
-        layout::KIND_SIZE,
-        layout::ROW_KIND,
-    );
-    octets::put_little(card, at + layout::BODY_AT, layout::ID_SIZE, id);
-    octets::put_little(
-        card,
-        at + layout::RECEIVED_AT,
-        layout::COUNTER_SIZE,
-        received[row],
-    );
-    octets::put_little(card, at + layout::SENT_AT, layout::COUNTER_SIZE, sent[row]);
+    let key_at = at + KEY_AT;
+    octets::put_little(card, at, LENGTH_SIZE, (KEY_AT - LENGTH_SIZE + size) as u64);
+    octets::put_little(card, at + KIND_AT, KIND_SIZE, ROW_KIND);
+    octets::put_little(card, at + BODY_AT, ID_SIZE, id);
+    octets::put_little(card, at + RECEIVED_AT, COUNTER_SIZE, received[row]);
+    octets::put_little(card, at + SENT_AT, COUNTER_SIZE, sent[row]);
     octets::copy(&store[slot..slot_end], card, key_at);
     record
 }
@@ -84,19 +81,9 @@ fn put_close(rows: usize, card: &mut [u8], at: usize)
     requires { ⌜ at + closeSize ≤ length (now card) ⌝ }
     ensures { λ _. ⌜ now (card .exit) ≡ written at (close rows) (now (card .entry)) ⌝ }
 {
-    octets::put_little(
-        card,
-        at,
-        layout::LENGTH_SIZE,
-        (layout::CLOSE_SIZE - layout::LENGTH_SIZE) as u64,
-    );
-    octets::put_little(
-        card,
-        at + layout::KIND_AT,
-        layout::KIND_SIZE,
-        layout::CLOSE_KIND,
-    );
-    octets::put_little(card, at + layout::BODY_AT, layout::COUNT_SIZE, rows as u64);
+    octets::put_little(card, at, LENGTH_SIZE, (CLOSE_SIZE - LENGTH_SIZE) as u64);
+    octets::put_little(card, at + KIND_AT, KIND_SIZE, CLOSE_KIND);
+    octets::put_little(card, at + BODY_AT, COUNT_SIZE, rows as u64);
 }
 
 // Writes the whole card of a sound book to the front of a room that it fits.
