@@ -1,4 +1,4 @@
--- The fields of a card's records, each number named once: docs/RULES.md, 'The card'. src/lib.rt draws them.
+-- The fields of a card's records, each number named once: docs/RULES.md, 'The card'. src/layout.rt draws them and has the same names.
 use Prim.Native.Nat.{ℕ, _+_}
 
 -- the sizes of a card's fields: a record's length and kind, a row's id and counters, the close's number of rows

@@ -1,4 +1,4 @@
-// Reading a card into a lent book: `reader` judges the whole card first, then the rows are set one by one.
+// Reading a card into a lent book: the whole card is judged first (`reader`), then the rows are set one by one.
 ghost use mathlib.Core.Path.{_≡_};
 ghost use Prim.Native.Nat.{_+_, _≤_};
 ghost use lib.ListN.{length, drop};
@@ -8,15 +8,15 @@ ghost use Rattle.key_book.specs.Laws.{Within};
 ghost use Rattle.book_card.specs.Layout.{keyAt};
 ghost use Rattle.book_card.specs.Reader.{rowFront, readCard, countedFrom};
 ghost use Rattle.book_card.specs.Reading.{readOf, readBook, rowsIn, setRow, loaded, rowsGiven};
-use crate::BODY_AT;
-use crate::COUNTER_SIZE;
 use crate::Counted;
 use crate::Front;
-use crate::ID_SIZE;
-use crate::KEY_AT;
-use crate::RECEIVED_AT;
 use crate::ReadAnswer;
-use crate::SENT_AT;
+use crate::layout::BODY_AT;
+use crate::layout::COUNTER_SIZE;
+use crate::layout::ID_SIZE;
+use crate::layout::KEY_AT;
+use crate::layout::RECEIVED_AT;
+use crate::layout::SENT_AT;
 use crate::reader::count_rows;
 use crate::reader::front_at;
 use key_book::SLOT_SIZE;
@@ -76,7 +76,7 @@ fn fill(
     let mut row: usize = 0;
     while row < rows {
         let front = front_at(card, at);
-        let Front::Row { id, size } = front else {
+        let Front::Row { id: _, size } = front else {
             // Not reached: the card has this row.
             return;
         };
