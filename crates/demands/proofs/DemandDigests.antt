@@ -1,6 +1,6 @@
 -- Demand 1 of the digest in progress, the whole digest and HMAC: their one number, 14, is given exactly where a total would pass its limit or a key
 -- is too long.
-use mathlib.Core.Path.{_≡_, refl, ap}
+use mathlib.Core.Path.{_≡_, ap}
 use mathlib.Core.Logic.{_≢_}
 use mathlib.Core.List.{List}
 use mathlib.Core.Option.{none, some}
@@ -44,7 +44,7 @@ pub feed-number : (d : Digest) (s : List ℕ) → Lowest (DigestApplies (d .tota
 feed-number d s = limited _ _ (λ h. ap (λ (f : Fed). f .number) (feed-taken d s h)) (λ h. ap (λ (f : Fed). f .number) (feed-refused d s h))
 
 pub finish-number : (d : Digest) → Lowest (DigestApplies (d .total)) (finishOf d .number)
-finish-number d = limited _ _ (λ h. ap (λ (f : Finished). f .number) (finish-taken d _ refl h)) (λ h. ap (λ (f : Finished). f .number) (finish-refused d h))
+finish-number d = limited _ _ (λ h. ap (λ (f : Finished). f .number) (finish-taken d h)) (λ h. ap (λ (f : Finished). f .number) (finish-refused d h))
 
 pub digest-number : (s : List ℕ) → Lowest (DigestApplies (length s)) (md5Of s .number)
 digest-number s = limited _ _ (λ h. ap (λ (f : Finished). f .number) (md5-taken s h)) (λ h. ap (λ (f : Finished). f .number) (md5-refused s h))
@@ -75,7 +75,7 @@ module _ (key text : List ℕ) where
 pub finish-zeros : (d : Digest) → finishOf d .number ≢ done → finishOf d .digest ≡ noDigest
 finish-zeros d h =
     elim (decLe (d .total) digestMost) [
-      | yes l ↦ absurd (h (ap (λ (f : Finished). f .number) (finish-taken d _ refl l)))
+      | yes l ↦ absurd (h (ap (λ (f : Finished). f .number) (finish-taken d l)))
       | no l ↦ ap (λ (f : Finished). f .digest) (finish-refused d (omega arith))
     ]
 
