@@ -17,6 +17,6 @@ use Rattle.delayed_auth.specs.Seal.{planRow, planForm, planOf, sealedMessage, s
 
 unfoldable pub computing : ℕ
 unfolding rotl auxiliary wordNo additive rotations stepWith stepAt steps round compress loadTo load blocks md5 padded padding output masked hmac
-    written filled le value littleAt be bigAt decodeAt checkedTokens checkedOf saidBy saidOf named formOf imageOf allBelow sized ascending keySizes sound placeFrom rowIn keyFits keyIn
-    admittedSaid admittedForm sameBytes judgedRow judgedSaid checkOf planRow planForm planOf sealedMessage sealOf
+    written filled le value littleAt be bigAt decodeAt checkedTokens checkedOf saidBy saidOf named formOf imageOf allBelow sized ascending keySizes
+    sound placeFrom rowIn keyFits keyIn admittedSaid admittedForm sameBytes judgedRow judgedSaid checkOf planRow planForm planOf sealedMessage sealOf
 computing = 0
