@@ -6,7 +6,8 @@
 Prints a line for each fault and fails if there is one. Comments never count: they are taken out first. The rules:
 
 Contracts (src/**/*.rt)
- - No function is foreign: the contract of a function without a body is assumed.
+ - No function is foreign: the contract of a function without a body is assumed. `pub use` hands on a public function or
+   constant of the crate's own, by its file.
  - Every clause is `⌜ P ⌝`, behind `λ r.` in an `ensures`, and holds no comment. An `ensures` speaks of the result or of what is lent afterwards,
    and no part of it is trivially true (`x ≡ x`, `A → A`, `(h : x < x) → ..`, `Unit`, ..). This holds of private functions and of programs too.
  - A public function of a library (`pub`, or visible to C; also in an `impl`, also in a deeper file) has no `requires`, but for those of SERVING, which
@@ -128,7 +129,6 @@ LIBRARY = {
         "mathlib.Core.List": "List [] _∷_ _++_ map",
         "Prim.Native.Nat": "ℕ zero suc _+_ _-_ _*_ _/_ _%_ _^_ _<_ _≤_",
         "lib.ListN": "length getD getElem? take drop replicate set",
-        "lib.Seq": "sets",
         "lib.Dec": "ltb leb eqb",
         "lib.Bits": "bitAnd bitOr bitXor",
     }.items()
@@ -245,14 +245,28 @@ def is_proposition(words):
 
 
 def without_let(words):
-    """A `let x = v in t` with v put in for x, and the names that were so bound, outermost first."""
+    """A `let x = v in t` with v put in for x, and the names that were so bound, outermost first. One that is not plain stays: its name is no plain
+    word or stands nowhere behind it, or its value binds a name, leaves a place open or is not whole."""
     words = bare(words)
     if words[:1] != ["let"] or words[2:3] != ["="]:
         return words, []
-    end = next((place for place, word in enumerate(words) if word == "in"), len(words))
-    value = ["(", *words[3:end], ")"]
-    body, names = without_let([w for word in words[end + 1 :] for w in (value if word == words[1] else [word])])
-    return body, [words[1], *names]
+    name, end = words[1], next((place for place, word in enumerate(words) if word == "in"), len(words))
+    value, rest = words[3:end], words[end + 1 :]
+    plain = re.fullmatch(r"[a-z][A-Za-z0-9]*", name) and value and not {"=", ";", "_", *BINDERS} & {*value}
+    if not plain or not whole(value) or name not in rest:
+        return words, []
+    body, names = without_let([w for word in rest for w in (["(", *value, ")"] if word == name else [word])])
+    return body, [name, *names]
+
+
+def whole(words):
+    """Every bracket in it is closed in it, and none before it is opened."""
+    depth = 0
+    for word in words:
+        depth += {"(": 1, "{": 1, ")": -1, "}": -1}.get(word, 0)
+        if depth < 0:
+            return False
+    return depth == 0
 
 
 def parts_of(words):
@@ -299,6 +313,17 @@ def contract_faults(crates):
                 if function.public and path != "src/main.rt":
                     for fault in public_faults(function, imported, source.structs, crate.name in SERVING):
                         yield f"{place} {fault}"
+
+
+def handed_on_faults(crates):
+    for crate in crates.values():
+        for path, source in crate.src.items():
+            for named, line in source.handed_on():
+                *modules, name = re.split(r"\s*::\s*", named)
+                file = crate.src.get("/".join(["src", *(module for module in modules if module not in ("crate", "self"))]) + ".rt")
+                is_function = file and any(each.name == name and each.public and not each.owner for each in file.functions)
+                if not is_function and not (file and re.search(rf"\bpub\s+const\s+{re.escape(name)}\b", file.text)):
+                    yield f"{crate.place(path, line)}: `pub use {named}` names no public function or constant of this crate's own"
 
 
 def clause_faults(clause, known):
@@ -357,7 +382,7 @@ def public_faults(function, imported, structs, serving):
             yield f"has an `ensures` that binds a name by `{word}`, which may hide the result or a parameter"
     results = {reading.result for reading in readings}
     lets = {name for reading in readings for name in reading.lets}
-    for name in ({*names} | results | lets) & {*imported, *LENT} | (results | lets) & {*names} | results & lets:
+    for name in ({*names} | results | lets) & {*imported, *LENT} | lets & {*LIBRARY} | (results | lets) & {*names} | results & lets:
         yield f"hides the name `{name}`"
     equations = [
         (reading.result, left, right)
@@ -683,6 +708,7 @@ def one_edit_faults(crate, edit):
 def all_faults(root, lists):
     crates = crates_of(root)
     yield from contract_faults(crates)
+    yield from handed_on_faults(crates)
     yield from name_faults(crates)
     yield from text_faults(crates)
     yield from declared_faults(crates)

@@ -215,6 +215,11 @@ class RattleSource:
         for found in re.finditer(r"\bghost\s+use\b([^;]*);", self.text):
             yield use_of(found.group(1), line_of(self.text, found.start()))
 
+    def handed_on(self):
+        """What each `pub use` names, with its line."""
+        for found in re.finditer(r"\bpub\s*(?:\([^)]*\)\s*)?use\b([^;]*);", self.text):
+            yield found.group(1).strip(), line_of(self.text, found.start())
+
     @cached_property
     def structs(self):
         """The fields of each struct, by its name."""

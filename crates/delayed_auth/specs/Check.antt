@@ -24,7 +24,7 @@ sameBytes (x ∷ xs) [] = false
 sameBytes (x ∷ xs) (y ∷ ys) = eqb x y && sameBytes xs ys
 
 -- 11 and 12, by whether the counter is above the stored one and whether the MAC is right. With replay method 0 the counter rises with every
--- message (RFC 3118, section 2), and the stored one was accepted: an equal one is that message again, or one sealed with a counter used before.
+-- message (RFC 3118, section 2), so that a counter equal to the one accepted last is a replay too.
 abbrev pub judgedBy : ℕ → ℕ → (above right : Bool) → Verdict
 judgedBy row counter false right = Refused Replay
 judgedBy row counter true false = Refused WrongMac

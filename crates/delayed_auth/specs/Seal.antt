@@ -28,7 +28,7 @@ use Rattle.delayed_auth.specs.declared.Sealing.the-variants.{Sealed, Uns
 abbrev pub counterMost : ℕ
 counterMost = 2 ^ 64 - 1
 
--- ---- what a seal goes by: option 90 as it was found and the row of the given id, or the refusal
+-- ---- what a seal goes by: option 90 as it was found and the row of the given id (`Plan.Ready`), or the refusal
 
 -- 13, by whether the sent counter is the largest
 abbrev pub planCounter : Auth → (row : ℕ) → (spent : Bool) → Plan

@@ -28,8 +28,8 @@ fn same_mac(a: [u8; 16], b: &[u8]) -> bool
 }
 
 // 10 to 12, of a message that passes 1 to 9. The counter is looked at before the MAC is computed (RFC 3118, section 5.3). It must be above the
-// stored one: with replay method 0 the counter rises with every message (RFC 3118, section 2), and the stored one was accepted already, so an
-// equal one is that message again.
+// stored one: with replay method 0 the counter rises with every message (RFC 3118, section 2), so nothing new comes with the counter that was
+// accepted last, and what comes with it was seen before.
 fn judged_full(
     ids: &[u32],
     lengths: &[u8],

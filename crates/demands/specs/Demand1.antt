@@ -1,6 +1,6 @@
 -- Demand 1 (docs/RULES.md, 'The demands' and 'Numbers'): any bytes, any book. For each entry it is said when each of its numbers applies, in the
--- rules' words; the entry gives the lowest number that applies, 0 exactly where none does. A refusal alters nothing lent, but that a digest refused
--- with 14 is 16 zero bytes.
+-- rules' words; the entry gives the lowest number that applies, 0 exactly where none does. A refusal alters nothing lent; with 14 the digest or
+-- MAC handed back is 16 zero bytes.
 -- Nothing is asked of the book; of a message and a card only that their elements are bytes. Its one proof is proofs/Demand1.antt.
 use Prim.Native.Nat.{ℕ, _+_, _<_, _≤_}
 use mathlib.Core.Path.{_≡_}

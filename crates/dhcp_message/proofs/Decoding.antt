@@ -10,7 +10,7 @@ use lib.Seq.{length-take-le, take-at, drop-at}
 use lib.Dec.{leb, eqb}
 use borrow.Author.Tests.{le-leb, ne-eqb, leb-true, leb-false, eqb-true, eqb-false}
 use Rattle.octets.specs.Bytes.{Bytes}
-use Rattle.dhcp_message.specs.Options.{Token, pad, opt, Parsed, cut, parsed, encode, WellFormed, Reads}
+use Rattle.dhcp_message.specs.Options.{Token, pad, opt, Parsed, broken, parsed, encode, WellFormed, Reads}
 use Rattle.dhcp_message.specs.Options.{body, option, code, lead, withToken, step, decodeAt, decode, RoundTrips}
 use Rattle.octets.proofs.Elements.{bytes-right}
 
@@ -27,7 +27,7 @@ pub decode-cons : (c : ℕ) (xs : List ℕ) → decode (c ∷ xs) ≡ step (λ k
 unfolding decodeAt
 decode-cons c xs = ap (λ (g : ℕ → Parsed). step g xs (lead c xs)) (fun-ext (λ k. skip k xs))
 
-pub decode-nil : decode [] ≡ cut
+pub decode-nil : decode [] ≡ broken
 unfolding decodeAt
 decode-nil = refl
 
@@ -86,8 +86,8 @@ decode-encode (opt c b ∷ ts) r h =
     let n : length b ≤ length (b ++ (encode ts ++ 255 ∷ r)) = simp (length-append) (omega arith) in
     rw (decode-cons, append-assoc, ne-eqb _ _ (h .0), ne-eqb _ _ (h .1), le-leb _ _ n, take-at b _ (length b) refl, drop-at b _ (length b) refl, ih)
 
-cut≢ : {A : Type 0} (ts : List Token) (r : List ℕ) → cut ≡ parsed ts r → A
-cut≢ ts r e = let z : _≡_ {A = ℕ} 0 1 = cc in absurd (omega arith)
+broken≢ : {A : Type 0} (ts : List Token) (r : List ℕ) → broken ≡ parsed ts r → A
+broken≢ ts r e = let z : _≡_ {A = ℕ} 0 1 = cc in absurd (omega arith)
 
 -- the bytes from which tokens and a rest were read, and the codes
 abbrev pub Read : List ℕ → List Token → List ℕ → Type 0
@@ -100,7 +100,7 @@ module _ (c : ℕ) (xs : List ℕ) (ts : List Token) (r : List ℕ) (ih : AllRea
   -- a token, and what was read after it
   behind : (t : Token) (k : ℕ) (p : Parsed) → decodeAt k xs ≡ p → withToken t p ≡ parsed ts r
       → ((us : List Token) → Read (drop k xs) us r → Read (c ∷ xs) (t ∷ us) r) → Read (c ∷ xs) ts r
-  behind t k cut e f g = cut≢ ts r f
+  behind t k broken e f g = broken≢ ts r f
   behind t k (parsed us q) e f g =
       let eu : t ∷ us ≡ ts = cc in
       let er : q ≡ r = cc in
@@ -108,13 +108,13 @@ module _ (c : ℕ) (xs : List ℕ) (ts : List Token) (r : List ℕ) (ih : AllRea
 
   fits : (n : ℕ) (ys : List ℕ) (f : Bool) → n ∷ ys ≡ xs → c ≢ 0 → c ≢ 255 → leb n (length ys) ≡ f
       → step (λ k. decodeAt k xs) xs (body c ys n f) ≡ parsed ts r → Read (c ∷ xs) ts r
-  fits n ys false ex h₀ h₁ l e = cut≢ ts r e
+  fits n ys false ex h₀ h₁ l e = broken≢ ts r e
   fits n ys true ex h₀ h₁ l e = behind (opt c (take n ys)) (suc n) (decodeAt (suc n) xs) refl e
       (λ us q. let z : encode us ++ 255 ∷ r ≡ drop n ys = rw (← ex) at (q .0) in
       (rw (← ex, length-take-le n ys (leb-true n _ l), append-assoc, z, take-append-drop), (h₀, h₁, q .1)))
 
   long : (ys : List ℕ) → ys ≡ xs → c ≢ 0 → c ≢ 255 → step (λ k. decodeAt k xs) xs (option c ys) ≡ parsed ts r → Read (c ∷ xs) ts r
-  long [] ex h₀ h₁ e = cut≢ ts r e
+  long [] ex h₀ h₁ e = broken≢ ts r e
   long (n ∷ ys) ex h₀ h₁ e = fits n ys (leb n (length ys)) ex h₀ h₁ refl e
 
   first : (z e : Bool) → eqb c 0 ≡ z → eqb c 255 ≡ e → step (λ k. decodeAt k xs) xs (code c xs z e) ≡ parsed ts r → Read (c ∷ xs) ts r
@@ -127,7 +127,7 @@ module _ (c : ℕ) (xs : List ℕ) (ts : List Token) (r : List ℕ) (ih : AllRea
 
 all-read : (xs : List ℕ) → AllRead xs
 unfolding decodeAt
-all-read [] k ts r e = cut≢ ts r e
+all-read [] k ts r e = broken≢ ts r e
 all-read (c ∷ xs) zero ts r e = first c xs ts r (all-read xs) (eqb c 0) (eqb c 255) refl refl e
 all-read (c ∷ xs) (suc k) ts r e = all-read xs k ts r e
 

@@ -4,16 +4,16 @@ use Prim.Native.Nat.{ℕ, zero, suc, _≤_}
 use native.Mathlib.Omega.{arith}
 use mathlib.Core.List.{List, [], _∷_, _++_}
 use lib.ListN.{length, take, drop}
-use Rattle.octets.specs.Bytes.{Bytes, written, zeros}
+use Rattle.octets.specs.Bytes.{Bytes, written, zeros, upFrom}
+use Rattle.octets.specs.Numbers.{be, bigAt}
 use Rattle.dhcp_message.specs.Options.{Token, pad, opt, encode, Reads, decodeAt}
 use Rattle.dhcp_message.specs.Message.{checkedTokens, checkedOf, Passes27}
 use Rattle.dhcp_message.specs.Said.{saidBy, saidOf, formOf}
 use Rattle.dhcp_message.specs.Image.{headWith, imageOf, coverFits, coverSize}
+use Rattle.dhcp_message.specs.Scan.{seenOf, scanOf}
 use Rattle.dhcp_message.specs.Relay.{RelayChange, added, replaced, removed, Permitted}
 use Rattle.dhcp_message.specs.Seal.{fieldsPut, macPut}
 use Rattle.dhcp_message.specs.Bench.{BenchExamples, distinctOf, distinct, LayoutPinned}
-use Rattle.octets.specs.Bytes.{upFrom}
-use Rattle.octets.specs.Numbers.{be, bigAt}
 
 bytes-zeros : (n : ℕ) → Bytes (zeros n)
 bytes-zeros zero = tt
@@ -63,9 +63,10 @@ options-read : Reads (drop 240 distinct) options (82 ∷ 0 ∷ [])
 options-read = ((omega arith, omega arith, omega arith, (omega arith, omega arith, omega arith, (omega arith, omega arith, omega arith, tt))), refl)
 
 pub layout-pinned : LayoutPinned
-unfolding saidOf formOf checkedOf checkedTokens decodeAt saidBy imageOf coverFits coverSize written fieldsPut macPut be bigAt
+unfolding saidOf formOf checkedOf checkedTokens decodeAt scanOf seenOf saidBy imageOf coverFits coverSize written fieldsPut macPut be bigAt
 layout-pinned = record {
   form = refl;
+  scanned = refl;
   said = refl;
   image = refl;
   covers-33 = refl;
@@ -81,8 +82,6 @@ layout-pinned = record {
       ((omega arith, omega arith, omega arith, tt), refl) (added (7 ∷ []) (omega arith, (omega arith, tt)) refl refl) refl (omega arith);
   relay-body-255 = (omega arith, bytes-zeros 255);
   relay-body-256 = λ h. omega (arith, h .0);
-  byte-255 = (omega arith, tt);
-  byte-256 = λ h. omega (arith, h .0);
   number-0 = refl;
   number-2 = refl;
   number-3 = refl;

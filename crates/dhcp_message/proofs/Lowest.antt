@@ -19,7 +19,7 @@ use Rattle.refusal.specs.declared.Refusal.the-variants.{MessageSize, WrongCooki
 use Rattle.refusal.specs.declared.Refusal.the-variants.{RelayInformation, OtherAuthentication, RequestForm}
 use Rattle.dhcp_message.specs.Layout.{magicCookie, delayed}
 use Rattle.octets.specs.Bytes.{Bytes, starts}
-use Rattle.dhcp_message.specs.Options.{Token, opt, Parsed, cut, parsed, decode, Reads}
+use Rattle.dhcp_message.specs.Options.{Token, opt, Parsed, broken, parsed, decode, Reads}
 use Rattle.dhcp_message.specs.Message.{count, optionOf, onlyPads, isLast, Checked, stopped, passed, checkedTokens, checkedParsed, checkedOf, Passed}
 use Rattle.dhcp_message.specs.Said.{refused, says, saidFor, saidBy, placesOf, formSaid, formIn, formOf, formNumber}
 use Rattle.dhcp_message.specs.Numbers.{OnlyPads, WhereRead, Has, RelayWrong, OtherForm, LowestGiven, Applies, wrong-size}
@@ -127,7 +127,7 @@ module _ (m : List ℕ) (bytes : Bytes m) where
 
   given-parsed : Below m 4 → (p : Parsed) → decode (drop 240 m) ≡ p → Given m (checkedParsed p)
   unfolding checkedTokens
-  given-parsed h cut e =
+  given-parsed h broken e =
       (broken-options (λ ts rest r. let f = sym e ∙ reads-decode (drop 240 m) ts rest r in let w : _≡_ {A = ℕ} 0 1 = cc in omega arith), h, omega arith)
   given-parsed h (parsed ts rest) e =
       given-tokens (nothing-more (Applies m) BrokenOptions h (λ a. elim a [ broken-options n ↦ n ts rest (reads m bytes ts rest e) ])) ts rest e

@@ -12,7 +12,7 @@ use borrow.Author.Tests.{lt-ltb, le-ltb, ne-eqb, eqb-false, ltb-false}
 use Rattle.refusal.specs.declared.Refusal.the-variants.{MessageSize, WrongCookie, NoAuthentication, RepeatedAuthentication, RelayInformation}
 use Rattle.dhcp_message.specs.Layout.{magicCookie}
 use Rattle.octets.specs.Bytes.{starts}
-use Rattle.dhcp_message.specs.Options.{Token, Parsed, cut, parsed, encode, decode}
+use Rattle.dhcp_message.specs.Options.{Token, Parsed, broken, parsed, encode, decode}
 use Rattle.dhcp_message.specs.Message.{count, optionOf, offsetOf, isLast}
 use Rattle.dhcp_message.specs.Message.{Checked, stopped, passed, checkedTokens, checkedParsed, checkedOf, Passed, Passes27, authIn, authOptionOf}
 use Rattle.dhcp_message.specs.Said.{saidBy, saidIn, saidOf, idOf, named, placesOf, formSaid, formIn, formOf}
@@ -67,7 +67,7 @@ module _ (m : List ℕ) where
 
   good-parsed : 241 ≤ length m → length m ≤ 1472 → starts magicCookie (drop 236 m) ≡ true → (p : Parsed) → decode (drop 240 m) ≡ p
       → Good m (checkedParsed p)
-  good-parsed a b k cut e = tt
+  good-parsed a b k broken e = tt
   good-parsed a b k (parsed ts rest) e = subst (Good m) (sym (by-tests ts rest)) (good-tokens a b k ts rest e _ _ _ _ refl refl refl refl)
 
   good-sizes : (x y k : Bool) → ltb (length m) 241 ≡ x → ltb 1472 (length m) ≡ y → starts magicCookie (drop 236 m) ≡ k

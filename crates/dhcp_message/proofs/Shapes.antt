@@ -13,14 +13,14 @@ use Rattle.refusal.specs.declared.Refusal.the-variants.{MessageSize, WrongCooki
 use Rattle.refusal.specs.declared.Refusal.the-variants.{NoAuthentication, RepeatedAuthentication, RelayInformation}
 use Rattle.octets.specs.Bytes.{starts}
 use Rattle.dhcp_message.specs.Layout.{magicCookie}
-use Rattle.dhcp_message.specs.Options.{Token, Parsed, cut, parsed, encode, decode}
+use Rattle.dhcp_message.specs.Options.{Token, Parsed, broken, parsed, encode, decode}
 use Rattle.dhcp_message.specs.Message.{count, isLast, stopped, passed, checkedTokens, checkedParsed}
 use Rattle.dhcp_message.specs.Said.{placesOf}
 use Rattle.dhcp_message.specs.Scan.{scanParsed, emptyTally, scanOf}
 use Rattle.dhcp_message.specs.Scan.{shapeFound, shapeIn, shapeOf}
 use Rattle.dhcp_message.specs.declared.scan.Tally.{Tally}
 use Rattle.dhcp_message.specs.declared.scan.Scan.{Scan}
-use Rattle.dhcp_message.specs.declared.scan.Scan.the-variants.{Cut as SCut, Whole as SWhole}
+use Rattle.dhcp_message.specs.declared.scan.Scan.the-variants.{Broken as SBroken, Whole as SWhole}
 use Rattle.dhcp_message.specs.declared.scan.Places.{Places}
 use Rattle.dhcp_message.specs.declared.scan.Shape.{Shape}
 use Rattle.dhcp_message.specs.declared.scan.Shape.the-variants.{Refused as SRefused, Passed as SPassed}
@@ -60,7 +60,7 @@ module _ (f : Tally) (e : ℕ) where
         found-late h l = rw (ne-eqb _ _ h₀, le-ltb _ _ h₁, ne-eqb _ _ h₂, le-ltb _ _ h, ne-eqb _ _ l)
 
 abbrev shapeScan : Scan → Shape
-shapeScan SCut = SRefused BrokenOptions
+shapeScan SBroken = SRefused BrokenOptions
 shapeScan (SWhole f e) = shapeFound f e
 
 module _ (ts : List Token) (rest : List ℕ) where
@@ -121,7 +121,7 @@ module _ (ts : List Token) (rest : List ℕ) where
       rw (zero-add (count 90 ts), zero-add (count 82 ts)) (found-by _ _ _ _ _ refl refl refl refl refl) ∙ ap shapeIn (sym (by-tests ts rest))
 
 shape-scan : (p : Parsed) → shapeScan (scanParsed emptyTally 240 p) ≡ shapeIn (checkedParsed p)
-shape-scan cut = refl
+shape-scan broken = refl
 shape-scan (parsed ts rest) = ap shapeScan (scan-is ts emptyTally 240) ∙ found-tokens ts rest
 
 -- ---- checks 2 to 7, by the tests of `shape_of`
@@ -142,8 +142,8 @@ module _ (m : List ℕ) where
         shape-go : shapeScan (scanOf m) ≡ shapeOf m
         shape-go = ap shapeScan (sym (head-start m .0)) ∙ shape-scan (decode (drop 240 m)) ∙ sym (shape-in m ∙ ap shapeIn (checks-options m h₀ h₁ (sym ek ∙ t)))
 
-        pub shape-cut : SCut ≡ scanOf m → SRefused BrokenOptions ≡ shapeOf m
-        shape-cut e = ap shapeScan e ∙ shape-go
+        pub shape-broken : SBroken ≡ scanOf m → SRefused BrokenOptions ≡ shapeOf m
+        shape-broken e = ap shapeScan e ∙ shape-go
 
         pub shape-whole : (f : Tally) (e : ℕ) (s : Shape) → SWhole f e ≡ scanOf m → s ≡ shapeFound f e → s ≡ shapeOf m
         shape-whole f e s w j = j ∙ ap shapeScan w ∙ shape-go

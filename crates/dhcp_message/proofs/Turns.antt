@@ -10,19 +10,19 @@ use lib.ListN.{length, take, drop, getD, length-drop, drop-of-length-le}
 use lib.Seq.{length-take-le, drop-cons, drop-drop}
 use lib.Dec.{leb, eqb}
 use borrow.Author.Tests.{le-leb, lt-leb, ne-eqb, eq-eqb, leb-true}
-use Rattle.dhcp_message.specs.Options.{pad, opt, Parsed, cut, parsed, body, option, code, withToken, step, decode}
+use Rattle.dhcp_message.specs.Options.{pad, opt, Parsed, broken, parsed, body, option, code, withToken, step, decode}
 use Rattle.dhcp_message.specs.Scan.{leadOf, hereOf, hereAt, seen90, seen82, seenOther, seenOf, scanParsed, emptyTally, scanOf}
 use Rattle.dhcp_message.specs.declared.scan.Here.{Here}
-use Rattle.dhcp_message.specs.declared.scan.Here.the-variants.{Cut as HCut, End as HEnd, Pad as HPad, Opt as HOpt}
+use Rattle.dhcp_message.specs.declared.scan.Here.the-variants.{Broken as HBroken, End as HEnd, Pad as HPad, Opt as HOpt}
 use Rattle.dhcp_message.specs.declared.scan.Tally.{Tally}
 use Rattle.dhcp_message.specs.declared.scan.Scan.{Scan}
-use Rattle.dhcp_message.specs.declared.scan.Scan.the-variants.{Cut as SCut, Whole as SWhole}
+use Rattle.dhcp_message.specs.declared.scan.Scan.the-variants.{Broken as SBroken, Whole as SWhole}
 use Rattle.dhcp_message.proofs.Decoding.{decode-cons, decode-nil}
 
 -- ---- what stands at an offset, by the tests of `here_at`
 
 module _ (s : List ℕ) (at : ℕ) where
-  pub here-past : length s ≤ at → HCut ≡ hereAt s at
+  pub here-past : length s ≤ at → HBroken ≡ hereAt s at
   unfolding hereAt
   here-past h = rw (drop-of-length-le s h)
 
@@ -34,13 +34,13 @@ module _ (s : List ℕ) (at : ℕ) where
   unfolding hereAt
   here-end h e = rw (drop-cons s at 0 h, e)
 
-  pub here-short : at < length s → getD s at 0 ≢ 0 → getD s at 0 ≢ 255 → length s ≤ at + 1 → HCut ≡ hereAt s at
+  pub here-short : at < length s → getD s at 0 ≢ 0 → getD s at 0 ≢ 255 → length s ≤ at + 1 → HBroken ≡ hereAt s at
   unfolding hereAt
   here-short h z e l = rw (drop-cons s at 0 h, ne-eqb _ _ z, ne-eqb _ _ e, drop-of-length-le s (rw add-one at l))
 
-  pub here-cut : at + 1 < length s → getD s at 0 ≢ 0 → getD s at 0 ≢ 255 → length s - (at + 1) ≤ getD s (at + 1) 0 → HCut ≡ hereAt s at
+  pub here-broken : at + 1 < length s → getD s at 0 ≢ 0 → getD s at 0 ≢ 255 → length s - (at + 1) ≤ getD s (at + 1) 0 → HBroken ≡ hereAt s at
   unfolding hereAt
-  here-cut h z e l =
+  here-broken h z e l =
       let h₀ : at < length s = omega arith in
       let h₁ : suc at < length s = omega arith in
       let l₀ : length s - suc at ≤ getD s (suc at) 0 = rw (add-one) at l in
@@ -61,19 +61,19 @@ module _ (s : List ℕ) (at : ℕ) where
 
 -- `from k` are the bytes behind the next k
 abbrev onHere : (ℕ → List ℕ) → Tally → ℕ → Here → Scan
-onHere from f at HCut = SCut
+onHere from f at HBroken = SBroken
 onHere from f at HEnd = SWhole f at
 onHere from f at HPad = scanParsed f (at + 1) (decode (from 1))
 onHere from f at (HOpt c n) = scanParsed (seenOf f c at n) (at + n) (decode (from n))
 
 module _ (f : Tally) (at : ℕ) where
   scan-pad : (p : Parsed) → scanParsed f at (withToken pad p) ≡ scanParsed f (at + 1) p
-  scan-pad cut = refl
+  scan-pad broken = refl
   scan-pad (parsed ts r) = refl
 
   scan-opt : (c : ℕ) (b : List ℕ) (p : Parsed)
       → scanParsed f at (withToken (opt c b) p) ≡ scanParsed (seenOf f c at (2 + length b)) (at + (2 + length b)) p
-  scan-opt c b cut = refl
+  scan-opt c b broken = refl
   scan-opt c b (parsed ts r) = refl
 
   module _ (c : ℕ) where
@@ -106,7 +106,7 @@ on-here m f at h e =
 
 -- what stands in front is within the bytes
 abbrev Within : ℕ → Here → Type 0
-Within n HCut = Unit {0}
+Within n HBroken = Unit {0}
 Within n HEnd = 1 ≤ n
 Within n HPad = 1 ≤ n
 Within n (HOpt c k) = (2 ≤ k) × (k ≤ n)
@@ -179,8 +179,8 @@ unfolding scanOf
 head-start m = (refl, omega arith)
 
 module _ (m : List ℕ) (f : Tally) (at : ℕ) (h : Head m f at) where
-  pub turn-cut : HCut ≡ hereAt m at → SCut ≡ scanOf m
-  turn-cut e = sym (on-here m f at HCut e) ∙ h .0
+  pub turn-broken : HBroken ≡ hereAt m at → SBroken ≡ scanOf m
+  turn-broken e = sym (on-here m f at HBroken e) ∙ h .0
 
   pub turn-end : HEnd ≡ hereAt m at → SWhole f at ≡ scanOf m
   turn-end e = sym (on-here m f at HEnd e) ∙ h .0

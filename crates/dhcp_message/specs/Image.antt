@@ -10,7 +10,7 @@ use lib.Dec.{leb, eqb}
 use Rattle.dhcp_message.specs.Layout.{headerSize, hopsAt, hopsSize, giaddrAt, giaddrSize, endCode, relayCode, authCode, optionHead}
 use Rattle.dhcp_message.specs.Layout.{macAt, macSize, fullSize}
 use Rattle.octets.specs.Bytes.{written, zeros}
-use Rattle.dhcp_message.specs.Options.{Token, pad, opt, Parsed, cut, parsed, encode, decode}
+use Rattle.dhcp_message.specs.Options.{Token, pad, opt, Parsed, broken, parsed, encode, decode}
 use Rattle.dhcp_message.specs.declared.Auth.{Auth}
 
 -- the tokens but for the options of code c
@@ -38,7 +38,7 @@ abbrev pub headZero : List ℕ → List ℕ
 headZero header = headWith (zeros hopsSize) (zeros giaddrSize) header
 
 abbrev pub imageIn : List ℕ → Parsed → List ℕ
-imageIn header cut = []
+imageIn header broken = []
 imageIn header (parsed ts rest) = headZero header ++ (encode (macZero (without relayCode ts)) ++ (endCode ∷ rest))
 
 unfoldable pub imageOf : List ℕ → List ℕ

@@ -9,7 +9,7 @@ use Rattle.refusal.specs.declared.Refusal.{Refusal}
 use Rattle.refusal.specs.declared.Refusal.the-variants.{MessageSize, WrongCookie, BrokenOptions, NoAuthentication, RepeatedAuthentication, RelayInformation}
 use Rattle.dhcp_message.specs.Layout.{messageLeast, messageMost, headerSize, cookieAt, magicCookie, relayCode, authCode}
 use Rattle.octets.specs.Bytes.{starts}
-use Rattle.dhcp_message.specs.Options.{Token, pad, opt, Parsed, cut, parsed, encode, decode}
+use Rattle.dhcp_message.specs.Options.{Token, pad, opt, Parsed, broken, parsed, encode, decode}
 
 -- how many options have code c
 abbrev pub count : ℕ → List Token → ℕ
@@ -59,7 +59,7 @@ checkedTokens ts rest =
 
 -- 4
 abbrev pub checkedParsed : Parsed → Checked
-checkedParsed cut = stopped BrokenOptions
+checkedParsed broken = stopped BrokenOptions
 checkedParsed (parsed ts rest) = checkedTokens ts rest
 
 -- 2 and 3
@@ -79,7 +79,7 @@ Passes27 m = Passed (checkedOf m)
 
 -- the bytes of a message's option 90
 abbrev pub authIn : Parsed → List ℕ
-authIn cut = []
+authIn broken = []
 authIn (parsed ts rest) = optionOf authCode ts
 
 unfoldable pub authOptionOf : List ℕ → List ℕ

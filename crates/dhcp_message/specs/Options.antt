@@ -34,7 +34,7 @@ Reads options tokens rest = WellFormed tokens × (options ≡ encode tokens ++ (
 
 -- what reading gives: the tokens before the first End and the bytes after it; or an option passes the end, or there is no End
 pub data Parsed : Type 0 where
-  cut : Parsed
+  broken : Parsed
   parsed : List Token → List ℕ → Parsed
 
 -- what stands in front: nothing whole, End, or a token, which takes so many bytes after its first
@@ -61,17 +61,17 @@ abbrev pub lead : ℕ → List ℕ → Lead
 lead c xs = code c xs (eqb c padCode) (eqb c endCode)
 
 abbrev pub withToken : Token → Parsed → Parsed
-withToken t cut = cut
+withToken t broken = broken
 withToken t (parsed ts rest) = parsed (t ∷ ts) rest
 
 abbrev pub step : (ℕ → Parsed) → List ℕ → Lead → Parsed
-step go xs nothing = cut
+step go xs nothing = broken
 step go xs end = parsed [] xs
 step go xs (token t k) = withToken t (go k)
 
 -- reading, once so many bytes are passed over
 unfoldable pub decodeAt : ℕ → List ℕ → Parsed
-decodeAt k [] = cut
+decodeAt k [] = broken
 decodeAt zero (c ∷ xs) = step (λ k. decodeAt k xs) xs (lead c xs)
 decodeAt (suc k) (c ∷ xs) = decodeAt k xs
 

@@ -7,14 +7,14 @@ use lib.ListN.{length, drop}
 use lib.Dec.{ltb, eqb}
 use Rattle.refusal.specs.declared.Refusal.the-variants.{NoAuthentication, RepeatedAuthentication, RelayInformation}
 use Rattle.dhcp_message.specs.Layout.{headerSize, relayCode, authCode, padSize, optionHead}
-use Rattle.dhcp_message.specs.Options.{Token, pad, opt, Parsed, cut, parsed, Lead, nothing, end, token, lead, decode}
+use Rattle.dhcp_message.specs.Options.{Token, pad, opt, Parsed, broken, parsed, Lead, nothing, end, token, lead, decode}
 use Rattle.dhcp_message.specs.Message.{Checked, stopped, passed, checkedOf}
 use Rattle.dhcp_message.specs.Said.{placesOf}
 use Rattle.dhcp_message.specs.declared.scan.Here.{Here}
-use Rattle.dhcp_message.specs.declared.scan.Here.the-variants.{Cut as HCut, End as HEnd, Pad as HPad, Opt as HOpt}
+use Rattle.dhcp_message.specs.declared.scan.Here.the-variants.{Broken as HBroken, End as HEnd, Pad as HPad, Opt as HOpt}
 use Rattle.dhcp_message.specs.declared.scan.Tally.{Tally}
 use Rattle.dhcp_message.specs.declared.scan.Scan.{Scan}
-use Rattle.dhcp_message.specs.declared.scan.Scan.the-variants.{Cut as SCut, Whole as SWhole}
+use Rattle.dhcp_message.specs.declared.scan.Scan.the-variants.{Broken as SBroken, Whole as SWhole}
 use Rattle.dhcp_message.specs.declared.scan.Shape.{Shape}
 use Rattle.dhcp_message.specs.declared.scan.Shape.the-variants.{Refused as SRefused, Passed as SPassed}
 
@@ -24,7 +24,7 @@ leadOf (c ∷ xs) = lead c xs
 
 -- an option is told by its code and the bytes that it takes
 abbrev pub hereOf : Lead → Here
-hereOf nothing = HCut
+hereOf nothing = HBroken
 hereOf end = HEnd
 hereOf (token pad k) = HPad
 hereOf (token (opt c body) k) = HOpt c (optionHead + length body)
@@ -53,7 +53,7 @@ scanFrom f at (pad ∷ ts) = scanFrom f (at + padSize) ts
 scanFrom f at (opt c body ∷ ts) = scanFrom (seenOf f c at (optionHead + length body)) (at + (optionHead + length body)) ts
 
 abbrev pub scanParsed : Tally → ℕ → Parsed → Scan
-scanParsed f at cut = SCut
+scanParsed f at broken = SBroken
 scanParsed f at (parsed ts rest) = scanFrom f at ts
 
 abbrev pub emptyTally : Tally

@@ -22,7 +22,7 @@ use refusal::Refusal;
 // What stands at an offset of the options. An option is told by its code and the bytes that it takes.
 pub(crate) enum Here {
     // Nothing whole.
-    Cut,
+    Broken,
     End,
     Pad,
     Opt { code: u8, size: usize },
@@ -40,7 +40,7 @@ pub(crate) struct Tally {
 
 // What a scan of all options gives: an option passes the message's end or End is missing; or what was found, and End's offset.
 pub(crate) enum Scan {
-    Cut,
+    Broken,
     Whole { found: Tally, end: usize },
 }
 
@@ -61,7 +61,7 @@ fn here_at(message: &[u8], at: usize) -> Here
     ensures { λ r. ⌜ r ≡ hereAt (now (message .entry)) at ⌝ }
 {
     if message.len() <= at {
-        return Here::Cut;
+        return Here::Broken;
     }
     let code = message[at];
     if code == PAD {
@@ -72,7 +72,7 @@ fn here_at(message: &[u8], at: usize) -> Here
     }
     let next = at + LENGTH_AT;
     if message.len() <= next {
-        return Here::Cut;
+        return Here::Broken;
     }
     let len = message[next] as usize;
     if len < message.len() - next {
@@ -81,7 +81,7 @@ fn here_at(message: &[u8], at: usize) -> Here
             size: OPTION_HEAD + len,
         };
     }
-    Here::Cut
+    Here::Broken
 }
 
 // What is found after one option more.
@@ -136,7 +136,7 @@ fn scan_options(message: &[u8]) -> Scan
     loop {
         let here = here_at(message, at);
         match here {
-            Here::Cut => return Scan::Cut,
+            Here::Broken => return Scan::Broken,
             Here::End => return Scan::Whole { found: f, end: at },
             Here::Pad => {
                 at = at + PAD_SIZE;
@@ -210,7 +210,7 @@ pub(crate) fn shape_of(message: &[u8]) -> Shape
     }
     let scan = scan_options(message);
     match scan {
-        Scan::Cut => Shape::Refused(Refusal::BrokenOptions),
+        Scan::Broken => Shape::Refused(Refusal::BrokenOptions),
         Scan::Whole { found, end } => shape_found(found, end),
     }
 }

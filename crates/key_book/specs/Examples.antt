@@ -1,4 +1,4 @@
--- The limits of a key book, from both sides: docs/RULES.md, 'The key book' and 'Bench examples', 10.
+-- The limits of a key book, from both sides and as numbers: docs/RULES.md, 'The key book' and 'Bench examples', 10.
 use mathlib.Core.Path.{_≡_}
 use mathlib.Core.Bool.{true, false}
 use mathlib.Core.List.{[], _∷_}
@@ -18,18 +18,18 @@ pub record Example10 : Type 0 where
   pub key-too-long : sound (oneRow 65) ≡ false
   pub no-key : sound (oneRow 0) ≡ false
 
--- room for so many rows, none in use
+-- room for so many rows, each with a slot of 64 bytes, none in use
 abbrev pub roomFor : ℕ → Book
-roomFor n = bookOf (zeros n) (zeros n) (zeros (slotSize * n)) (zeros n) (zeros n) 0
+roomFor n = bookOf (zeros n) (zeros n) (zeros (64 * n)) (zeros n) (zeros n) 0
 
 -- so many rows, all in use, each with a key of one byte
 abbrev pub allUsed : ℕ → Book
-allUsed n = bookOf (upFrom 0 n) (replicate n 1) (zeros (slotSize * n)) (zeros n) (zeros n) n
+allUsed n = bookOf (upFrom 0 n) (replicate n 1) (zeros (64 * n)) (zeros n) (zeros n) n
 
 -- one row whose id, key bytes and counters are the largest of 32, 8 and 64 bits
 abbrev pub largestRow : Book
 largestRow =
-    bookOf (replicate 1 4294967295) (slotSize ∷ []) (replicate slotSize 255) (replicate 1 18446744073709551615) (replicate 1 18446744073709551615) 1
+    bookOf (replicate 1 4294967295) (64 ∷ []) (replicate 64 255) (replicate 1 18446744073709551615) (replicate 1 18446744073709551615) 1
 
 -- room for 1,024 rows and no more; 64 rows in use and no more; and `Lent` asks no more than the types give
 pub record BookLimits : Type 0 where

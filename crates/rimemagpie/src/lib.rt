@@ -156,8 +156,8 @@ pub extern "C" fn rimemagpie_seal(
 {
     let sealing = delayed_auth::seal(ids, lengths, store, received, sent, rows, id, message);
     match sealing {
-        Sealing::Sealed(written) => {
-            *counter = written;
+        Sealing::Sealed(next) => {
+            *counter = next;
             0
         }
         Sealing::Unsealed(refusal) => refusal::number(refusal),

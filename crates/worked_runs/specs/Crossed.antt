@@ -7,10 +7,9 @@ use mathlib.Core.Path.{_≡_}
 use mathlib.Core.List.{List, [], _∷_, _++_}
 use Rattle.refusal.specs.declared.Refusal.the-variants.{MessageSize, NoAuthentication, UnknownSecret}
 use Rattle.dhcp_message.specs.Layout.{magicCookie}
-use Rattle.octets.specs.Bytes.{zeros}
 use Rattle.dhcp_message.specs.Image.{headWith}
 use Rattle.dhcp_message.specs.Bench.{someMac}
-use Rattle.octets.specs.Bytes.{upFrom}
+use Rattle.octets.specs.Bytes.{zeros, upFrom}
 use Rattle.key_book.specs.Book.{Book, Sound, bookOf}
 use Rattle.delayed_auth.specs.declared.Verdict.the-variants.{Accepted, Refused}
 use Rattle.delayed_auth.specs.declared.Sealing.the-variants.{Sealed, Unsealed}

@@ -1,7 +1,7 @@
 -- `dhcp_message::here_at` meets its contract: each answer is one case of `hereAt` (proofs/Turns.antt).
 use Prim.Native.Nat.{_+_}
 use native.Mathlib.Omega.{arith}
-use Rattle.dhcp_message.proofs.Turns.{here-past, here-pad, here-end, here-short, here-cut, here-opt}
+use Rattle.dhcp_message.proofs.Turns.{here-past, here-pad, here-end, here-short, here-broken, here-opt}
 use borrow.Author.Needs.{needs}
 use Rattle.dhcp_message.proofs.scan.here_at.Statement.{statement}
 use Rattle.dhcp_message.proofs.scan.here_at.Tie as tie
@@ -25,7 +25,7 @@ returns-5 : tie.Need-returns-5
 returns-5 c = here-opt _ _ (search needs) (search needs) (search needs) (search needs)
 
 returns-6 : tie.Need-returns-6
-returns-6 c = here-cut _ _ (search needs) (search needs) (search needs) (search needs)
+returns-6 c = here-broken _ _ (search needs) (search needs) (search needs) (search needs)
 
 pub here-at-spec : {M : Type 1} → statement M
 here-at-spec =

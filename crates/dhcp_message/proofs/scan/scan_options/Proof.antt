@@ -5,7 +5,7 @@ use lib.ListN.{length}
 use mathlib.Core.Path.{sym, _∙_}
 use native.Mathlib.Omega.{arith}
 use borrow.Author.Needs.{needs}
-use Rattle.dhcp_message.proofs.Turns.{Head, head-start, pad-fits, opt-fits, turn-cut, turn-end, turn-pad, turn-opt}
+use Rattle.dhcp_message.proofs.Turns.{Head, head-start, pad-fits, opt-fits, turn-broken, turn-end, turn-pad, turn-opt}
 use Rattle.dhcp_message.proofs.scan.scan_options.Statement.{statement}
 use Rattle.dhcp_message.proofs.scan.scan_options.Tie as tie
 
@@ -19,7 +19,7 @@ loop-holds : tie.Need-loop-holds Inv-loop μ-loop
 loop-holds c = head-start _
 
 returns : tie.Need-returns Inv-loop μ-loop
-returns c = let asked = c .before .before in turn-cut _ _ _ (asked .before .loop .inv) (sym (c .enum-told .given .1) ∙ asked .here-at .ensures)
+returns c = let asked = c .before .before in turn-broken _ _ _ (asked .before .loop .inv) (sym (c .enum-told .given .1) ∙ asked .here-at .ensures)
 
 returns-2 : tie.Need-returns-2 Inv-loop μ-loop
 returns-2 c = let asked = c .before .before in turn-end _ _ _ (asked .before .loop .inv) (sym (c .enum-told2 .given .1) ∙ asked .here-at .ensures)

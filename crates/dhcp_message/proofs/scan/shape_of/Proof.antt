@@ -1,7 +1,7 @@
 -- `dhcp_message::shape_of` meets its contract: each answer is one case of checks 2 to 7 (proofs/Shapes.antt).
 use borrow.Author.Tests.{not-true, not-false}
 use mathlib.Core.Path.{sym, _∙_}
-use Rattle.dhcp_message.proofs.Shapes.{shape-short, shape-long, shape-cookie, shape-cut, shape-whole}
+use Rattle.dhcp_message.proofs.Shapes.{shape-short, shape-long, shape-cookie, shape-broken, shape-whole}
 use borrow.Author.Needs.{needs}
 use Rattle.dhcp_message.proofs.scan.shape_of.Statement.{statement}
 use Rattle.dhcp_message.proofs.scan.shape_of.Tie as tie
@@ -19,7 +19,7 @@ returns-4 : tie.Need-returns-4
 returns-4 c =
     let asked = c .before .before in
     let tested = asked .before in
-    shape-cut _ (search needs) (search needs) _ (tested .before .is-cookie .ensures) (not-false _ (tested .if3 .left))
+    shape-broken _ (search needs) (search needs) _ (tested .before .is-cookie .ensures) (not-false _ (tested .if3 .left))
     (sym (c .enum-told .given .1) ∙ asked .scan-options .ensures)
 
 returns-5 : tie.Need-returns-5
