@@ -1,12 +1,12 @@
 -- The ends of reading a card and of writing one, each as one case: what is so where this is answered and this is left (`read-case`, `write-case`), and
 -- that this is answered and left where that is so (`case-read`, `case-write`).
 -- The only file that unfolds `readOf`, `readBook`, `rowsIn`, `writeOf` and `roomAfter`.
-use mathlib.Core.Path.{_≡_, refl, sym, ap}
-use mathlib.Core.Bool.{Bool, true, false, cond}
+use mathlib.Core.Path.{_≡_, refl, sym, ap, _∙_}
+use mathlib.Core.Bool.{Bool, true, false, cond, true≢false}
 use mathlib.Core.Option.{Option, none, some}
 use mathlib.Core.List.{List, _++_}
 use Prim.Native.Nat.{ℕ, _≤_, _<_}
-use native.Mathlib.Omega.{arith}
+use mathlib.Mathlib.Data.Bool.Basic.{eq-false-eq-not-eq-true}
 use borrow.Author.Tests.{lt-ltb, le-ltb, ltb-true, ltb-false}
 use lib.Dec.{ltb}
 use lib.ListN.{length, drop}
@@ -21,10 +21,6 @@ use Rattle.book_card.specs.declared.ReadAnswer.{ReadAnswer}
 use Rattle.book_card.specs.declared.ReadAnswer.the-variants.{Refused, Rows}
 use Rattle.book_card.specs.declared.WriteAnswer.{WriteAnswer}
 use Rattle.book_card.specs.declared.WriteAnswer.the-variants.{Refused as NotWritten, Size}
-
-untrue : (t : Bool) → (t ≡ true → ⊥) → t ≡ false
-untrue true h = absurd (h refl)
-untrue false h = refl
 
 -- ---- reading
 
@@ -58,7 +54,7 @@ module _ (b : Book) (card : List ℕ) where
     where
       on : (t : Bool) → sized b ≡ t → Leaves (cond t (readAs (length (b .ids)) (readCard card)) (Refused UnsoundBook))
       on true e = card-case (sized-says b .0 e) (readCard card) refl
-      on false e = unsized (λ z. let t = sized-says b .1 z in let n : _≡_ {A = ℕ} 0 1 = cc in omega arith)
+      on false e = unsized (λ z. true≢false (sym (sized-says b .1 z) ∙ e))
 
   ended : (a : ReadAnswer) → a ≡ readOf b card → (a ≡ readOf b card) × (readBy b card a ≡ readBook b card)
   unfolding readBook
@@ -66,7 +62,7 @@ module _ (b : Book) (card : List ℕ) where
 
   pub case-read : {a : ReadAnswer} {c : Book} → ReadCase b card a c → (a ≡ readOf b card) × (c ≡ readBook b card)
   unfolding readOf
-  case-read (unsized h) = ended (Refused UnsoundBook) (rw (untrue (sized b) (λ e. h (sized-says b .0 e))))
+  case-read (unsized h) = ended (Refused UnsoundBook) (rw (eq-false-eq-not-eq-true (sized b) .0 (λ e. h (sized-says b .0 e))))
   case-read (malformed z e) = ended (Refused MalformedCard) (rw (sized-says b .1 z, e))
   case-read (no-room z rows e l) = ended (Refused NoRoomForRows) (rw (sized-says b .1 z, e, lt-ltb (length (b .ids)) (length rows) l))
   case-read (read z rows e l) =
@@ -91,7 +87,7 @@ module _ (b : Book) (room : List ℕ) where
     where
       on : (t : Bool) → sound b ≡ t → (u : Bool) → ltb (length room) size ≡ u
           → (let a = cond t (cond u (NotWritten NoRoomForCard) (Size size)) (NotWritten UnsoundBook) in WriteCase b room a (roomBy b room a))
-      on false e u l = unsound (λ s. let t = sound-says b .1 s in let n : _≡_ {A = ℕ} 0 1 = cc in omega arith)
+      on false e u l = unsound (λ s. true≢false (sym (sound-says b .1 s) ∙ e))
       on true e true l = small (sound-says b .0 e) (ltb-true _ _ l)
       on true e false l = wrote (sound-says b .0 e) (ltb-false _ _ l)
 
@@ -101,7 +97,7 @@ module _ (b : Book) (room : List ℕ) where
 
   pub case-write : {a : WriteAnswer} {after : List ℕ} → WriteCase b room a after → (a ≡ writeOf b (length room)) × (after ≡ roomAfter b room)
   unfolding writeOf
-  case-write (unsound h) = written-so (NotWritten UnsoundBook) (rw (untrue (sound b) (λ e. h (sound-says b .0 e))))
+  case-write (unsound h) = written-so (NotWritten UnsoundBook) (rw (eq-false-eq-not-eq-true (sound b) .0 (λ e. h (sound-says b .0 e))))
   case-write (small s l) = written-so (NotWritten NoRoomForCard) (rw (sound-says b .1 s, lt-ltb (length room) size l))
   case-write (wrote s l) = written-so (Size size) (rw (sound-says b .1 s, le-ltb (length room) size l))
 
