@@ -1,11 +1,11 @@
 -- The second pass over a card, which sets its rows: what each turn keeps, and each end of `card_read`.
 use mathlib.Core.Path.{_≡_, refl, sym, ap, ap₂, _∙_}
 use mathlib.Core.Bool.{Bool, true, false, not, true≢false}
-use mathlib.Core.Option.{Option, none, some, Option·getD}
-use mathlib.Core.List.{List, [], _++_}
+use mathlib.Core.Option.{Option, none, some}
+use mathlib.Core.List.{List, _++_}
 use Prim.Native.Nat.{ℕ, suc, _+_, _≤_, _<_}
 use native.Mathlib.Omega.{arith}
-use borrow.Author.Tests.{lt-ltb, le-ltb, not-true, not-false}
+use borrow.Author.Tests.{not-true, not-false}
 use lib.ListN.{length, getD, drop, length-drop, drop-of-length-le}
 use lib.Seq.{drop-cons, drop-drop}
 use Rattle.refusal.specs.declared.Refusal.the-variants.{UnsoundBook, MalformedCard, NoRoomForRows}
@@ -17,7 +17,7 @@ use Rattle.key_book.proofs.Says.{sized-says}
 use Rattle.book_card.specs.Layout.{keyAt}
 use Rattle.book_card.specs.Card.{Row, rowRecord, rowRecords, close, cardOf, noRow, InOrder, RowFits}
 use Rattle.book_card.specs.Reader.{frontOf, rowFront, readCard, countedFrom}
-use Rattle.book_card.specs.Reading.{setRow, loaded, readAs, readOf, rowsIn, readBy, readBook}
+use Rattle.book_card.specs.Reading.{setRow, loaded, readOf, rowsIn, readBook}
 use Rattle.book_card.specs.declared.Front.{Front}
 use Rattle.book_card.specs.declared.Front.the-variants.{Row as RowFront}
 use Rattle.book_card.specs.declared.Counted.the-variants.{Malformed, Rows as RowCount}

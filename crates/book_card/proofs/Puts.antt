@@ -4,7 +4,7 @@ use mathlib.Core.Bool.{Bool, true, false, not, true≢false}
 use mathlib.Core.List.{List, [], _++_, append-nil}
 use Prim.Native.Nat.{ℕ, suc, _+_, _-_, _*_, _≤_, _<_}
 use native.Mathlib.Omega.{arith}
-use borrow.Author.Tests.{lt-ltb, le-ltb, not-true, not-false}
+use borrow.Author.Tests.{not-true, not-false}
 use lib.ListN.{length, getD, take, drop, length-append}
 use Rattle.refusal.specs.declared.Refusal.the-variants.{UnsoundBook, NoRoomForCard}
 use Rattle.octets.specs.Bytes.{written}
@@ -19,7 +19,7 @@ use Rattle.key_book.proofs.Says.{sound-says, rows-within, key-is, key-long}
 use Rattle.book_card.specs.Layout.{lengthSize, kindSize, idSize, counterSize, countSize, rowKind, closeKind}
 use Rattle.book_card.specs.Layout.{kindAt, bodyAt, receivedAt, sentAt, keyAt, closeSize}
 use Rattle.book_card.specs.Card.{rowRecord, close, cardOf}
-use Rattle.book_card.specs.Writing.{rowAt, rowsOf, sizeTo, writeOf, roomAfter, roomBy}
+use Rattle.book_card.specs.Writing.{rowAt, rowsOf, sizeTo, writeOf, roomAfter}
 use Rattle.book_card.specs.declared.WriteAnswer.{WriteAnswer}
 use Rattle.book_card.specs.declared.WriteAnswer.the-variants.{Refused, Size}
 use Rattle.book_card.proofs.Shape.{rowFields, row-fields, closeFields, close-fields, close-size}
