@@ -1,11 +1,11 @@
 -- The second pass over a card, which sets its rows: what each turn keeps, and each end of `card_read`.
 use mathlib.Core.Path.{_≡_, refl, sym, ap, ap₂, _∙_}
-use mathlib.Core.Bool.{Bool, true, false, not}
-use mathlib.Core.Option.{Option, none, some, Option·getD}
-use mathlib.Core.List.{List, [], _++_}
+use mathlib.Core.Bool.{Bool, true, false, not, true≢false}
+use mathlib.Core.Option.{Option, none, some}
+use mathlib.Core.List.{List, _++_}
 use Prim.Native.Nat.{ℕ, suc, _+_, _≤_, _<_}
 use native.Mathlib.Omega.{arith}
-use borrow.Author.Tests.{lt-ltb, le-ltb, not-true, not-false}
+use borrow.Author.Tests.{not-true, not-false}
 use lib.ListN.{length, getD, drop, length-drop, drop-of-length-le}
 use lib.Seq.{drop-cons, drop-drop}
 use Rattle.refusal.specs.declared.Refusal.the-variants.{UnsoundBook, MalformedCard, NoRoomForRows}
@@ -17,7 +17,7 @@ use Rattle.key_book.proofs.Says.{sized-says}
 use Rattle.book_card.specs.Layout.{keyAt}
 use Rattle.book_card.specs.Card.{Row, rowRecord, rowRecords, close, cardOf, noRow, InOrder, RowFits}
 use Rattle.book_card.specs.Reader.{frontOf, rowFront, readCard, countedFrom}
-use Rattle.book_card.specs.Reading.{setRow, loaded, readAs, readOf, rowsIn, readBy, readBook}
+use Rattle.book_card.specs.Reading.{setRow, loaded, readOf, rowsIn, readBook}
 use Rattle.book_card.specs.declared.Front.{Front}
 use Rattle.book_card.specs.declared.Front.the-variants.{Row as RowFront}
 use Rattle.book_card.specs.declared.Counted.the-variants.{Malformed, Rows as RowCount}
@@ -26,6 +26,7 @@ use Rattle.book_card.specs.declared.ReadAnswer.the-variants.{Refused, Ro
 use Rattle.book_card.proofs.Shape.{records-cons, card-is, row-read, front-of-row, row-of-front}
 use Rattle.book_card.proofs.Loads.{room-for, row-set-long, row-set-sized, setFrom, set-all, set-none, set-cons}
 use Rattle.book_card.proofs.Says.{card-says}
+use Rattle.book_card.proofs.Ends.{rows-of-card, unsized, malformed, no-room, read, case-read}
 
 -- a card of so many rows
 pub record CardRows (card : List ℕ) (n : ℕ) : Type 0 where
@@ -37,10 +38,9 @@ pub record CardRows (card : List ℕ) (n : ℕ) : Type 0 where
 -- what the first pass told
 module _ (card : List ℕ) (h : Bytes card) where
   card-rows : (o : Option (List Row)) → readCard card ≡ o → (n : ℕ) → RowCount n ≡ countedFrom 0 o → CardRows card n
-  unfolding rowsIn
   card-rows none e n c = absurd (let z : _≡_ {A = ℕ} 0 1 = cc in omega arith)
   card-rows (some rows) e n c =
-      let i : Option·getD (readCard card) [] ≡ rows = rw e in
+      let i = rows-of-card card rows e in
       let s = card-says card h rows .0 e in
       let z : 0 + length rows ≡ n = cc in
       record { reads = e ∙ ap some (sym i); order = rw i (s .0); bytes = rw i (s .1); count = rw i (omega arith) }
@@ -164,34 +164,24 @@ module _ (b : Book) (card : List ℕ) where
   abbrev Ends : ReadAnswer → Book → Type 0
   Ends answer after = (answer ≡ readOf b card) × (after ≡ readBook b card)
 
-  ended : (answer : ReadAnswer) → answer ≡ readOf b card → Ends answer (readBy b card answer)
-  unfolding readBook
-  ended answer e = (e, ap (readBy b card) e)
-
   module _ (t : Bool) (e : t ≡ sized b) where
     pub read-sizes : not t ≡ true → Ends (Refused UnsoundBook) b
-    unfolding readOf
-    read-sizes h = ended (Refused UnsoundBook) (rw (sym e ∙ not-true t h))
+    read-sizes h = case-read b card (unsized (λ z. true≢false (sym (sized-says b .1 z) ∙ sym e ∙ not-true t h)))
 
     module _ (h : not t ≡ false) where
       pub told-sized : Sized b
       told-sized = sized-says b .0 (sym e ∙ not-false t h)
 
       pub read-malformed : Malformed ≡ countedFrom 0 (readCard card) → Ends (Refused MalformedCard) b
-      unfolding readOf
-      read-malformed m = ended (Refused MalformedCard) (rw (sym e ∙ not-false t h) (on (readCard card) m))
+      read-malformed m = case-read b card (malformed told-sized (on (readCard card) m))
         where
-          on : (o : Option (List Row)) → Malformed ≡ countedFrom 0 o → Refused MalformedCard ≡ readAs (length (b .ids)) o
+          on : (o : Option (List Row)) → Malformed ≡ countedFrom 0 o → o ≡ none
           on none m = refl
           on (some rows) m = absurd (let z : _≡_ {A = ℕ} 0 1 = cc in omega arith)
 
       module _ (n : ℕ) (q : CardRows card n) where
         pub read-no-room : length (b .ids) < n → Ends (Refused NoRoomForRows) b
-        unfolding readOf
-        read-no-room l = ended (Refused NoRoomForRows) (rw (sym e ∙ not-false t h, q .reads, q .count, lt-ltb (length (b .ids)) n l))
+        read-no-room l = case-read b card (no-room told-sized (rowsIn card) (q .reads) (rw (q .count) l))
 
         pub read-done : n ≤ length (b .ids) → (after : Book) → after ≡ loaded b (rowsIn card) → Ends (Rows n) after
-        unfolding readOf
-        read-done l after f =
-            let d = ended (Rows n) (rw (sym e ∙ not-false t h, q .reads, q .count, le-ltb (length (b .ids)) n l)) in
-            (d .0, f ∙ d .1)
+        read-done l after f = rw (f, ← q .count) (case-read b card (read told-sized (rowsIn card) (q .reads) (rw (q .count) l)))

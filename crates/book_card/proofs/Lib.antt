@@ -5,6 +5,7 @@ pub mod Says
 pub mod Counting
 pub mod Slots
 pub mod Loads
+pub mod Ends
 pub mod Fills
 pub mod Writes
 pub mod Puts

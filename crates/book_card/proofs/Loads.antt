@@ -1,5 +1,5 @@
 -- Setting rows of a book: one from its record on a card, and many one by one.
-use mathlib.Core.Path.{_≡_, sym, ap, _∙_}
+use mathlib.Core.Path.{_≡_, refl, sym, ap, _∙_}
 use mathlib.Core.List.{List, [], _∷_, map}
 use Prim.Native.Nat.{ℕ, suc, _+_, _-_, _*_, _≤_, _<_}
 use native.Mathlib.Nat.{zero-add}
@@ -89,6 +89,17 @@ setFrom b k rows =
     (written k (map (λ (r : Row). r .received) rows) (b .received))
     (written k (map (λ (r : Row). r .sent) rows) (b .sent))
     (k + length rows)
+
+pub loaded-is : (b : Book) (rows : List Row) → loaded b rows
+    ≡ bookOf
+    (written 0 (map (λ (r : Row). r .id) rows) (b .ids))
+    (written 0 (map (λ (r : Row). length (r .key)) rows) (b .lengths))
+    (written 0 (slotsOf rows) (b .store))
+    (written 0 (map (λ (r : Row). r .received) rows) (b .received))
+    (written 0 (map (λ (r : Row). r .sent) rows) (b .sent))
+    (length rows)
+unfolding loaded
+loaded-is b rows = refl
 
 pub set-all : (b : Book) (rows : List Row) → setFrom b 0 rows ≡ loaded b rows
 unfolding setFrom loaded

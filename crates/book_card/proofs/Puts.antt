@@ -1,10 +1,10 @@
 -- Putting a card in a room: the fields of a record one after another, what each turn over the rows keeps, and each end of `card_write`.
 use mathlib.Core.Path.{_≡_, refl, sym, ap, _∙_}
-use mathlib.Core.Bool.{Bool, true, false, not}
+use mathlib.Core.Bool.{Bool, true, false, not, true≢false}
 use mathlib.Core.List.{List, [], _++_, append-nil}
 use Prim.Native.Nat.{ℕ, suc, _+_, _-_, _*_, _≤_, _<_}
 use native.Mathlib.Omega.{arith}
-use borrow.Author.Tests.{lt-ltb, le-ltb, not-true, not-false}
+use borrow.Author.Tests.{not-true, not-false}
 use lib.ListN.{length, getD, take, drop, length-append}
 use Rattle.refusal.specs.declared.Refusal.the-variants.{UnsoundBook, NoRoomForCard}
 use Rattle.octets.specs.Bytes.{written}
@@ -19,11 +19,12 @@ use Rattle.key_book.proofs.Says.{sound-says, rows-within, key-is, key-long}
 use Rattle.book_card.specs.Layout.{lengthSize, kindSize, idSize, counterSize, countSize, rowKind, closeKind}
 use Rattle.book_card.specs.Layout.{kindAt, bodyAt, receivedAt, sentAt, keyAt, closeSize}
 use Rattle.book_card.specs.Card.{rowRecord, close, cardOf}
-use Rattle.book_card.specs.Writing.{rowAt, rowsOf, sizeTo, writeOf, roomAfter, roomBy}
+use Rattle.book_card.specs.Writing.{rowAt, rowsOf, sizeTo, writeOf, roomAfter}
 use Rattle.book_card.specs.declared.WriteAnswer.{WriteAnswer}
 use Rattle.book_card.specs.declared.WriteAnswer.the-variants.{Refused, Size}
 use Rattle.book_card.proofs.Shape.{rowFields, row-fields, closeFields, close-fields, close-size}
 use Rattle.book_card.proofs.Writes.{restOf, rest-next, rest-last, rest-all, row-length, card-size}
+use Rattle.book_card.proofs.Ends.{unsound, small, wrote, case-write}
 
 -- ---- a record
 
@@ -164,25 +165,17 @@ module _ (b : Book) (room : List ℕ) where
   abbrev Ends : WriteAnswer → List ℕ → Type 0
   Ends answer after = (answer ≡ writeOf b (length room)) × (after ≡ roomAfter b room)
 
-  ended : (answer : WriteAnswer) → answer ≡ writeOf b (length room) → Ends answer (roomBy b room answer)
-  unfolding roomAfter
-  ended answer e = (e, ap (roomBy b room) e)
-
   module _ (t : Bool) (e : t ≡ sound b) where
     pub write-unsound : not t ≡ true → Ends (Refused UnsoundBook) room
-    unfolding writeOf
-    write-unsound h = ended (Refused UnsoundBook) (rw (sym e ∙ not-true t h))
+    write-unsound h = case-write b room (unsound (λ s. true≢false (sym (sound-says b .1 s) ∙ sym e ∙ not-true t h)))
 
     module _ (h : not t ≡ false) (size : ℕ) (z : size ≡ sizeTo (b .lengths) (b .rows)) where
       pub size-is : length (cardOf (rowsOf b)) ≡ size
       size-is = card-size b (told-sound b t e h) ∙ sym z
 
       pub write-no-room : length room < size → Ends (Refused NoRoomForCard) room
-      unfolding writeOf
-      write-no-room l = ended (Refused NoRoomForCard) (rw (sym e ∙ not-false t h, size-is, lt-ltb (length room) size l))
+      write-no-room l = case-write b room (small (told-sound b t e h) (rw size-is l))
 
       pub write-done : size ≤ length room → (after : List ℕ) → after ≡ written 0 (cardOf (rowsOf b)) room → Ends (Size size) after
-      unfolding writeOf
       write-done l after f =
-          let d = ended (Size size) (rw (sym e ∙ not-false t h, size-is, le-ltb (length room) size l)) in
-          (d .0, f ∙ written-front (cardOf (rowsOf b)) room ∙ ap (λ (n : ℕ). cardOf (rowsOf b) ++ drop n room) size-is ∙ d .1)
+          rw (f ∙ written-front (cardOf (rowsOf b)) room, ← size-is) (case-write b room (wrote (told-sound b t e h) (rw size-is l)))

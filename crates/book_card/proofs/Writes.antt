@@ -1,13 +1,15 @@
--- What is written: a book's card from a row on, and its size.
-use mathlib.Core.Path.{_≡_, refl, ap, ap₂, _∙_}
+-- What is written: a book's rows, its card from a row on, and its size. The only file that unfolds `rowsFrom`, `rowsOf` and `sizeTo`.
+use mathlib.Core.Path.{_≡_, refl, sym, ap, ap₂, _∙_}
 use mathlib.Core.List.{List, _++_}
 use Prim.Native.Nat.{ℕ, zero, suc, _+_, _-_, _*_, _≤_, _<_}
+use native.Mathlib.Nat.{add-zero, zero-add}
 use native.Mathlib.Omega.{arith}
 use lib.ListN.{length, getD, length-append}
+use lib.Seq.{ext-getD}
 use Rattle.key_book.specs.Book.{Book, Sound}
 use Rattle.key_book.proofs.Says.{key-says}
 use Rattle.book_card.specs.Layout.{keyAt, closeSize}
-use Rattle.book_card.specs.Card.{rowRecord, close, rowRecords, cardOf}
+use Rattle.book_card.specs.Card.{Row, noRow, rowRecord, close, rowRecords, cardOf}
 use Rattle.book_card.specs.Writing.{rowAt, rowsFrom, rowsOf, sizeTo}
 use Rattle.book_card.proofs.Shape.{row-size, close-size, records-cons, records-none, card-is}
 
@@ -40,6 +42,25 @@ pub rows-length : (b : Book) (k n : ℕ) → length (rowsFrom b k n) ≡ n
 unfolding rowsFrom
 rows-length b k zero = refl
 rows-length b k (suc n) = ap suc (rows-length b (suc k) n)
+
+rows-at : (b : Book) (k n i : ℕ) → i < n → getD (rowsFrom b k n) i noRow ≡ rowAt b (k + i)
+unfolding rowsFrom
+rows-at b k zero i h = absurd (omega arith)
+rows-at b k (suc n) zero h = ap (rowAt b) (sym (add-zero k))
+rows-at b k (suc n) (suc i) h = let e : suc k + i ≡ k + suc i = omega arith in rows-at b (suc k) n i (omega arith) ∙ ap (rowAt b) e
+
+module _ (b : Book) where
+  pub row-is : (k : ℕ) → k < b .rows → getD (rowsOf b) k noRow ≡ rowAt b k
+  unfolding rowsOf
+  row-is k h = rows-at b 0 (b .rows) k h ∙ ap (rowAt b) (zero-add k)
+
+  pub rows-count : length (rowsOf b) ≡ b .rows
+  unfolding rowsOf
+  rows-count = rows-length b 0 (b .rows)
+
+  -- they are these rows, if each of them is
+  pub rows-are : (rows : List Row) → length rows ≡ b .rows → ((k : ℕ) → k < b .rows → rowAt b k ≡ getD rows k noRow) → rowsOf b ≡ rows
+  rows-are rows l g = let c = rows-count in ext-getD noRow (rowsOf b) rows (omega arith) (λ k h. row-is k (omega arith) ∙ g k (omega arith))
 
 -- the bytes of a book's card from a row on
 unfoldable pub restOf : Book → ℕ → ℕ → List ℕ

@@ -1,7 +1,7 @@
 -- Reading a card row by row (specs/Laws.antt, `ReadSays`): each list of the book read is the card's elements written over the old ones, and a row's
 -- slot stands in the slots written over the key store.
 use mathlib.Core.Path.{_≡_, refl, sym, ap, _∙_}
-use mathlib.Core.Option.{some}
+use mathlib.Core.Option.{some, Option·some-injective}
 use mathlib.Core.List.{List, _++_, map}
 use Prim.Native.Nat.{ℕ, suc, _+_, _-_, _*_, _≤_, _<_}
 use native.Mathlib.Omega.{arith}
@@ -12,14 +12,16 @@ use Rattle.key_book.specs.Book.{Book, Sized}
 use Rattle.book_card.specs.Card.{Row, cardOf, noRow, InOrder}
 use Rattle.book_card.specs.Reader.{readCard}
 use Rattle.book_card.specs.Reading.{slotsOf, loaded}
+use Rattle.book_card.specs.declared.ReadAnswer.the-variants.{Rows}
 use Rattle.card_laws.specs.Laws.{RowSet, LeftFrom, RowsLeft, RowsRead, ReadSays}
 use Rattle.book_card.proofs.Says.{card-says}
+use Rattle.book_card.proofs.Loads.{loaded-is}
+use Rattle.book_card.proofs.Ends.{ReadCase, read, read-case}
 use Rattle.book_card.proofs.Slots.{Fit, slots-length, slots-at}
 use Rattle.octets.specs.Bytes.{written, filled}
 use Rattle.octets.proofs.Written.{length-written, written-front}
 use Rattle.octets.proofs.Filled.{length-filled, filled-in, filled-behind}
 use Rattle.card_laws.proofs.Largest.{card-bytes}
-use Rattle.card_laws.proofs.Answers.{given, gives, gives-book}
 
 -- elements written at the front of a list, and the old ones behind them
 front-new : (new old : List ℕ) (k : ℕ) → k < length new → getD (written 0 new old) k 0 ≡ getD new k 0
@@ -61,42 +63,41 @@ module _ (b : Book) (z : Sized b) (rows : List Row) (o : InOrder rows) (room : l
   fit k h = o .fit k h .key-to
 
   row-set : (k : ℕ) → k < length rows → RowSet (loaded b rows) k (getD rows k noRow)
-  unfolding loaded
   row-set k h =
       let key = getD rows k noRow .key in
       let t = fit k h in
-      record {
+      rw (loaded-is b rows) (record {
         id = field-at (λ (r : Row). r .id) refl rows (b .ids) k h;
         key-size = field-at (λ (r : Row). length (r .key)) refl rows (b .lengths) k h;
         received = field-at (λ (r : Row). r .received) refl rows (b .received) k h;
         sent = field-at (λ (r : Row). r .sent) refl rows (b .sent) k h;
         key = λ i l. slot-at rows (b .store) k i fit h (omega arith) ∙ filled-in slotSize key t i l;
         zeros = λ i l m. slot-at rows (b .store) k i fit h m ∙ filled-behind slotSize key t i l m;
-      }
+      })
 
   rows-left : RowsLeft (length rows) b (loaded b rows)
-  unfolding loaded
   rows-left =
       let one : (f : Row → ℕ) (old : List ℕ) → length old ≡ length (b .ids) → LeftFrom (length rows) old (written 0 (map f rows) old) =
       λ f old e. let m = length-map rows f in front-left (map f rows) old (length rows) m (omega arith) in
       let s = slots-length rows fit in
-      record {
+      rw (loaded-is b rows) (record {
         ids = one (λ (r : Row). r .id) (b .ids) refl;
         lengths = one (λ (r : Row). length (r .key)) (b .lengths) (z .lengths-agree);
         store = front-left (slotsOf rows) (b .store) (slotSize * length rows) s (omega (arith, z .store-agrees));
         received = one (λ (r : Row). r .received) (b .received) (z .received-agree);
         sent = one (λ (r : Row). r .sent) (b .sent) (z .sent-agree);
-      }
+      })
 
   pub rows-read : RowsRead b rows (length rows) (loaded b rows)
-  unfolding loaded
-  rows-read = record { count = refl; in-use = refl; row = row-set; left = rows-left }
+  rows-read = record { count = refl; in-use = ap (λ (c : Book). c .rows) (loaded-is b rows); row = row-set; left = rows-left }
 
 pub read-says : ReadSays
-read-says b card n g rows o e =
-    let q = given b card n g in
-    let r : readCard card ≡ some rows = ap readCard e ∙ card-says (cardOf rows) (card-bytes rows o) rows .1 (o, refl) in
-    let s : q .rows ≡ rows = let p = q .reads in cc in
-    let m : length rows ≤ length (b .ids) = rw (← s) (q .room) in
-    let c : length rows ≡ n = let p = gives b (q .sizes) card rows r m in cc in
-    rw (gives-book b (q .sizes) card rows r m, ← c) (rows-read b (q .sizes) rows o m)
+read-says b card n g rows o e = on (rw g at (read-case b card))
+  where
+    reads : readCard card ≡ some rows
+    reads = ap readCard e ∙ card-says (cardOf rows) (card-bytes rows o) rows .1 (o, refl)
+
+    on : {m : ℕ} {c : Book} → ReadCase b card (Rows m) c → RowsRead b rows m c
+    on (read z others f l) =
+        let s : others ≡ rows = Option·some-injective _ _ (sym f ∙ reads) in
+        rw s (rows-read b z rows o (rw (← s) l))

@@ -3,11 +3,11 @@ use mathlib.Core.Path.{_≡_, sym, _∙_}
 use Prim.Native.Nat.{ℕ, _<_}
 use native.Mathlib.Omega.{arith}
 use Rattle.key_book.specs.Book.{Book, Sound}
-use Rattle.key_book.proofs.Says.{sound-says, key-depends}
+use Rattle.key_book.proofs.Says.{key-depends}
 use Rattle.book_card.specs.Writing.{rowAt, rowsOf}
+use Rattle.book_card.proofs.Writes.{row-is, rows-count, rows-are}
+use Rattle.book_card.proofs.Ends.{written-alike}
 use Rattle.card_laws.specs.Laws.{SameRows, WriteDepends}
-use Rattle.card_laws.proofs.Rows.{row-is, rows-count, rows-are}
-use Rattle.card_laws.proofs.Answers.{same-answer, same-room}
 
 module _ (b c : Book) (s : Sound b) (t : Sound c) (a : SameRows b c) where
   same-row : (k : ℕ) → k < b .rows → rowAt b k ≡ rowAt c k
@@ -25,7 +25,4 @@ module _ (b c : Book) (s : Sound b) (t : Sound c) (a : SameRows b c) where
       rows-are b (rowsOf c) (omega arith) (λ k h. same-row k h ∙ sym (row-is c k (omega arith)))
 
 pub write-depends : WriteDepends
-write-depends b c s t a room =
-    let e = sound-says b .1 s ∙ sym (sound-says c .1 t) in
-    let r = same-rows b c s t a in
-    (same-answer b c e r room, same-room b c e r room)
+write-depends b c s t a room = written-alike b c s t (same-rows b c s t a) room

@@ -1,5 +1,4 @@
 mod Rows
-pub mod Answers
 pub mod Largest
 pub mod ByRow
 pub mod Trips

@@ -1,46 +1,24 @@
--- The rows of a book (`rowsOf`), row by row; a sound book's are in order. The only file that unfolds `rowsFrom` and `rowsOf`.
-use mathlib.Core.Path.{_≡_, sym, ap, _∙_}
-use Prim.Native.Nat.{ℕ, zero, suc, _+_, _*_, _<_}
-use native.Mathlib.Nat.{add-zero, zero-add}
+-- A sound book's rows are in order, so that they have a card.
+use Prim.Native.Nat.{ℕ, _*_, _<_}
 use native.Mathlib.Omega.{arith}
-use mathlib.Core.List.{List}
-use lib.ListN.{length, getD}
-use lib.Seq.{ext-getD}
+use lib.ListN.{getD}
 use Rattle.key_book.specs.Limits.{slotSize}
 use Rattle.key_book.specs.Book.{Book, Lent, Sound}
 use Rattle.key_book.proofs.Says.{rows-within, key-says, key-is}
-use Rattle.book_card.specs.Card.{Row, noRow, RowFits, InOrder}
-use Rattle.book_card.specs.Writing.{rowAt, rowsFrom, rowsOf}
+use Rattle.book_card.specs.Card.{RowFits, InOrder}
+use Rattle.book_card.specs.Writing.{rowAt, rowsOf}
 use Rattle.octets.proofs.Elements.{bytes-of, bytes-take, bytes-drop}
-use Rattle.book_card.proofs.Writes.{rows-length}
-
-rows-at : (b : Book) (k n i : ℕ) → i < n → getD (rowsFrom b k n) i noRow ≡ rowAt b (k + i)
-unfolding rowsFrom
-rows-at b k zero i h = absurd (omega arith)
-rows-at b k (suc n) zero h = ap (rowAt b) (sym (add-zero k))
-rows-at b k (suc n) (suc i) h = let e : suc k + i ≡ k + suc i = omega arith in rows-at b (suc k) n i (omega arith) ∙ ap (rowAt b) e
+use Rattle.book_card.proofs.Writes.{row-is, rows-count}
 
 module _ (b : Book) where
-  pub row-is : (k : ℕ) → k < b .rows → getD (rowsOf b) k noRow ≡ rowAt b k
-  unfolding rowsOf
-  row-is k h = rows-at b 0 (b .rows) k h ∙ ap (rowAt b) (zero-add k)
-
-  pub rows-count : length (rowsOf b) ≡ b .rows
-  unfolding rowsOf
-  rows-count = rows-length b 0 (b .rows)
-
-  -- they are these rows, if each of them is
-  pub rows-are : (rows : List Row) → length rows ≡ b .rows → ((k : ℕ) → k < b .rows → rowAt b k ≡ getD rows k noRow) → rowsOf b ≡ rows
-  rows-are rows l g = let c = rows-count in ext-getD noRow (rowsOf b) rows (omega arith) (λ k h. row-is k (omega arith) ∙ g k (omega arith))
-
   pub rows-in-order : Lent b → Sound b → InOrder (rowsOf b)
   rows-in-order l s =
-      let c = rows-count in
+      let c = rows-count b in
       let f = s .rows-few in
       record {
         few = omega arith;
-        fit = λ k h. rw (row-is k (omega arith)) (row-fits k (omega arith));
-        ascend = λ j k m h. rw (row-is j (omega arith), row-is k (omega arith)) (s .ids-ascend j k m (omega arith));
+        fit = λ k h. rw (row-is b k (omega arith)) (row-fits k (omega arith));
+        ascend = λ j k m h. rw (row-is b j (omega arith), row-is b k (omega arith)) (s .ids-ascend j k m (omega arith));
       }
     where
       row-fits : (k : ℕ) → k < b .rows → RowFits (rowAt b k)

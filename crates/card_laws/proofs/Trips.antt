@@ -1,8 +1,7 @@
 -- Both round trips. A loaded book is sound and its rows are the card's, row by row (proofs/ByRow.antt); a sound book's rows are in order, so that their
 -- card reads as they.
 use mathlib.Core.Path.{_≡_, refl, sym, ap, _∙_}
-use mathlib.Core.Option.{some}
-use mathlib.Core.List.{List, _++_}
+use mathlib.Core.List.{List}
 use Prim.Native.Nat.{ℕ, _≤_, _<_}
 use native.Mathlib.Omega.{arith}
 use lib.ListN.{length, getD, take, drop}
@@ -10,15 +9,14 @@ use lib.Seq.{take-at, ext-getD}
 use Rattle.key_book.specs.Book.{Book, Sized, Sound, keyOf}
 use Rattle.key_book.proofs.Says.{key-says}
 use Rattle.book_card.specs.Card.{Row, cardOf, noRow, InOrder}
-use Rattle.book_card.specs.Reader.{readCard}
 use Rattle.book_card.specs.Reading.{loaded, readOf, readBook}
 use Rattle.book_card.specs.Writing.{rowAt, rowsOf, roomAfter}
 use Rattle.book_card.specs.declared.ReadAnswer.the-variants.{Rows}
-use Rattle.book_card.specs.declared.WriteAnswer.the-variants.{Size}
 use Rattle.book_card.proofs.Says.{card-says}
-use Rattle.card_laws.specs.Laws.{WriteThenRead, ReadThenWrite}
-use Rattle.card_laws.proofs.Rows.{rows-count, rows-are, rows-in-order}
-use Rattle.card_laws.proofs.Answers.{writes, writes-bytes, gives, gives-book, given}
+use Rattle.book_card.proofs.Writes.{rows-count, rows-are}
+use Rattle.book_card.proofs.Ends.{ReadCase, read, read-case, case-read, wrote, case-write}
+use Rattle.card_laws.specs.Laws.{WriteThenRead, ReadWritten, ReadThenWrite}
+use Rattle.card_laws.proofs.Rows.{rows-in-order}
 use Rattle.card_laws.proofs.Largest.{card-bytes}
 use Rattle.card_laws.proofs.ByRow.{rows-read}
 
@@ -68,29 +66,26 @@ pub write-then-read : WriteThenRead
 write-then-read b l s room h into z r =
     let o = rows-in-order b l s in
     let card = cardOf (rowsOf b) in
+    let w = case-write b room (wrote s h) in
     let e : take (length card) (roomAfter b room) ≡ card =
-    ap (take (length card)) (writes-bytes b s room h) ∙ take-at card (drop (length card) room) (length card) refl in
-    let reads : readCard card ≡ some (rowsOf b) = card-says card (card-bytes (rowsOf b) o) (rowsOf b) .1 (o, refl) in
+    ap (take (length card)) (sym (w .1)) ∙ take-at card (drop (length card) room) (length card) refl in
     let n = rows-count b in
     let q : length (rowsOf b) ≤ length (into .ids) = omega arith in
+    let g = case-read into card (read z (rowsOf b) (card-says card (card-bytes (rowsOf b) o) (rowsOf b) .1 (o, refl)) q) in
     record {
-      size = writes b s room h;
-      answer = ap (readOf into) e ∙ gives into z card (rowsOf b) reads q ∙ ap Rows n;
-      rows = ap (λ (c : List ℕ). rowsOf (readBook into c)) e ∙ ap rowsOf (gives-book into z card (rowsOf b) reads q) ∙ loaded-rows into z (rowsOf b) o q;
+      size = sym (w .0);
+      answer = ap (readOf into) e ∙ sym (g .0) ∙ ap Rows n;
+      rows = ap (λ (c : List ℕ). rowsOf (readBook into c)) e ∙ ap rowsOf (sym (g .1)) ∙ loaded-rows into z (rowsOf b) o q;
     }
 
 pub read-then-write : ReadThenWrite
-read-then-write card h into n g room l =
-    let q = given into card n g in
-    let c = card-says card h (q .rows) .0 (q .reads) in
-    let book = gives-book into (q .sizes) card (q .rows) (q .reads) (q .room) in
-    let s : Sound (readBook into card) = rw book (loaded-sound into (q .sizes) (q .rows) (c .0) (q .room)) in
-    let r : rowsOf (readBook into card) ≡ q .rows = ap rowsOf book ∙ loaded-rows into (q .sizes) (q .rows) (c .0) (q .room) in
-    let e : cardOf (rowsOf (readBook into card)) ≡ card = ap cardOf r ∙ sym (c .1) in
-    let f = ap length e in
-    let m : length (cardOf (rowsOf (readBook into card))) ≤ length room = omega arith in
-    record {
-      loaded-sound = s;
-      size = writes (readBook into card) s room m ∙ ap Size f;
-      bytes = writes-bytes (readBook into card) s room m ∙ ap (λ (x : List ℕ). x ++ drop (length x) room) e;
-    }
+read-then-write card h into n g room l = on (rw g at (read-case into card)) refl
+  where
+    on : {m : ℕ} {c : Book} → ReadCase into card (Rows m) c → readBook into card ≡ c → ReadWritten card into room
+    on (read z rows reads fits) book =
+        let c = card-says card h rows .0 reads in
+        let s : Sound (readBook into card) = rw book (loaded-sound into z rows (c .0) fits) in
+        let e : cardOf (rowsOf (readBook into card)) ≡ card =
+        ap (λ (b : Book). cardOf (rowsOf b)) book ∙ ap cardOf (loaded-rows into z rows (c .0) fits) ∙ sym (c .1) in
+        let w = case-write (readBook into card) room (wrote s (rw e l)) in
+        record { loaded-sound = s; size = sym (rw e at (w .0)); bytes = sym (rw e at (w .1)) }

@@ -16,8 +16,8 @@ use Rattle.book_card.specs.Card.{Row}
 use Rattle.book_card.specs.Reader.{readCard}
 use Rattle.book_card.specs.Reading.{loaded}
 use Rattle.book_card.proofs.Says.{card-says, malformed-says}
+use Rattle.book_card.proofs.Ends.{malformed, read, case-read}
 use Rattle.card_laws.proofs.Largest.{largest-card}
-use Rattle.card_laws.proofs.Answers.{refuses, gives, gives-book}
 use Rattle.verdict_line.specs.declared.Line.{Line}
 use Rattle.verdict_line.specs.declared.Line.the-variants.{Refused, Unreadable}
 use Rattle.file_verdict.specs.declared.Loaded.the-variants.{Stopped, Rows}
@@ -71,10 +71,9 @@ module _ (card : List ℕ) (rows : List Row) (c : CardOf card rows) where
 
   by-rows : (message : Option (List ℕ)) → lineFor (some card) message ≡ messageLine (loaded emptyBook rows) message
   by-rows message =
-      let r = gives emptyBook empty-sized card rows card-rows rows-room in
-      let k = gives-book emptyBook empty-sized card rows card-rows rows-room in
-      line-rows (some card) message (length rows) (card-read emptyBook (some card) card-small r refl)
-      ∙ ap (λ (b : Book). messageLine b message) (sym (book-read emptyBook (some card) card-small refl) ∙ k)
+      let r = case-read emptyBook card (read empty-sized rows card-rows rows-room) in
+      line-rows (some card) message (length rows) (card-read emptyBook (some card) card-small (sym (r .0)) refl)
+      ∙ ap (λ (b : Book). messageLine b message) (sym (book-read emptyBook (some card) card-small refl) ∙ sym (r .1))
 
   by-check : (message : List ℕ) → length message ≤ fileMost → (v : Verdict) → checkOf (loaded emptyBook rows) message ≡ v
       → lineFor (some card) (some message) ≡ verdictLine v
@@ -86,7 +85,7 @@ line-says = record {
   card-too-large = λ card h message. line-stopped (some card) message Unreadable (card-none emptyBook (some card) (readable-too-large card h) .0);
   card-malformed = λ card h b f message.
       line-stopped (some card) message (Refused MalformedCard)
-      (card-read emptyBook (some card) (readable-fits card h) (refuses emptyBook empty-sized card (malformed-says card b .1 f)) refl);
+      (card-read emptyBook (some card) (readable-fits card h) (sym (case-read emptyBook card (malformed empty-sized (malformed-says card b .1 f)) .0)) refl);
   message-missing = λ card rows c. by-rows card rows c none ∙ sym (message-none (loaded emptyBook rows) none readable-none .0);
   message-too-large = λ card rows c message h.
       by-rows card rows c (some message) ∙ sym (message-none (loaded emptyBook rows) (some message) (readable-too-large message h) .0);
