@@ -157,7 +157,7 @@ impl Book<'_> {
 
     /// Reads a card: its rows and counters replace those in use. An old card brings old counters
     /// back.
-    pub fn read_card(&mut self, card: &[u8]) -> Result<(), Refusal> {
+    pub fn card_read(&mut self, card: &[u8]) -> Result<(), Refusal> {
         let mut rows = 0;
         Refusal::from_number(c::card_read(
             card,
@@ -174,7 +174,7 @@ impl Book<'_> {
 
     /// Writes the book's card into the first bytes of the room and returns its size, [`CARD_MOST`]
     /// at the most.
-    pub fn write_card(&self, room: &mut [u8]) -> Result<usize, Refusal> {
+    pub fn card_write(&self, room: &mut [u8]) -> Result<usize, Refusal> {
         let mut size = 0;
         Refusal::from_number(c::card_write(
             self.ids,

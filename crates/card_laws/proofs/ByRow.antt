@@ -72,7 +72,7 @@ module _ (b : Book) (z : Sized b) (rows : List Row) (o : InOrder rows) (room : l
         received = field-at (λ (r : Row). r .received) refl rows (b .received) k h;
         sent = field-at (λ (r : Row). r .sent) refl rows (b .sent) k h;
         key = λ i l. slot-at rows (b .store) k i fit h (omega arith) ∙ filled-in slotSize key t i l;
-        zeros = λ i l m. slot-at rows (b .store) k i fit h m ∙ filled-behind slotSize key t i l m;
+        zero-behind = λ i l m. slot-at rows (b .store) k i fit h m ∙ filled-behind slotSize key t i l m;
       })
 
   rows-left : RowsLeft (length rows) b (loaded b rows)

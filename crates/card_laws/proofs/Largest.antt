@@ -4,9 +4,9 @@ use mathlib.Core.List.{List, [], _∷_, _++_}
 use Prim.Native.Nat.{ℕ, zero, suc, _+_, _*_, _≤_, _<_}
 use native.Mathlib.Nat.{add-zero}
 use native.Mathlib.Omega.{arith}
-use lib.ListN.{length, getD, replicate, length-append, length-replicate}
-use Rattle.octets.specs.Bytes.{Bytes}
-use Rattle.octets.proofs.Elements.{bytes-append, bytes-left}
+use lib.ListN.{length, getD, length-append, length-replicate}
+use Rattle.octets.specs.Bytes.{Bytes, zeros}
+use Rattle.octets.proofs.Elements.{bytes-append, bytes-left, bytes-zeros}
 use Rattle.octets.proofs.LowFirst.{bytes-le}
 use Rattle.key_book.specs.Limits.{rowsMost, slotSize}
 use Rattle.book_card.specs.Layout.{keyAt}
@@ -45,7 +45,7 @@ card-length rows = ap length (card-is rows)
 
 -- a row of the largest card, and where it stands
 abbrev fullRow : ℕ → Row
-fullRow id = record { id = id; received = 0; sent = 0; key = replicate slotSize 0 }
+fullRow id = record { id = id; received = 0; sent = 0; key = zeros slotSize }
 
 full-length : (id n : ℕ) → length (fullRows id n) ≡ n
 unfolding fullRows
@@ -66,10 +66,6 @@ full-records id (suc n) t =
     let k = length-replicate {A = ℕ} slotSize 0 in
     omega (arith, row-size (fullRow id), full-records (suc id) n t)
 
-zeros-bytes : (n : ℕ) → Bytes (replicate n 0)
-zeros-bytes zero = tt
-zeros-bytes (suc n) = (omega arith, zeros-bytes n)
-
 full-in-order : InOrder (fullRows 0 rowsMost)
 full-in-order =
     let l = full-length 0 rowsMost in
@@ -83,7 +79,7 @@ full-in-order =
             sent-fits = omega arith;
             key-from = omega arith;
             key-to = omega arith;
-            key-bytes = zeros-bytes slotSize;
+            key-bytes = bytes-zeros slotSize;
           });
       ascend = λ j k m h. rw (full-at 0 rowsMost j (omega arith), full-at 0 rowsMost k (omega arith)) (omega arith);
     }

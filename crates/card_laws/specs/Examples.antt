@@ -1,4 +1,4 @@
--- Bench examples 1 and 2 (docs/RULES.md, 'Bench examples') over the definitions (example 10 is in key_book), and a card whose bytes are all different
+-- Bench examples 1 and 2 (docs/RULES.md, 'Bench examples') over the definitions, and a card whose bytes are all different
 -- where they may be.
 use mathlib.Core.Path.{_≡_}
 use mathlib.Core.Option.{none, some}
@@ -7,6 +7,7 @@ use Prim.Native.Nat.{ℕ}
 use lib.ListN.{length, take, replicate}
 use Rattle.refusal.specs.Number.{numberOf}
 use Rattle.refusal.specs.declared.Refusal.the-variants.{MalformedCard}
+use Rattle.octets.specs.Bytes.{zeros}
 use Rattle.key_book.specs.Book.{Book, bookOf}
 use Rattle.book_card.specs.Card.{Row, cardOf}
 use Rattle.book_card.specs.Reader.{closed, fault, rowsInFront, readCard}
@@ -17,11 +18,11 @@ use Rattle.book_card.specs.declared.WriteAnswer.the-variants.{Size}
 
 -- book B: one row, id 7, received 10, sent 3, key 1, 2, 3, 4, in room for one row
 abbrev pub bookB : Book
-bookB = bookOf (7 ∷ []) (4 ∷ []) (1 ∷ 2 ∷ 3 ∷ 4 ∷ replicate 60 0) (10 ∷ []) (3 ∷ []) 1
+bookB = bookOf (7 ∷ []) (4 ∷ []) (1 ∷ 2 ∷ 3 ∷ 4 ∷ zeros 60) (10 ∷ []) (3 ∷ []) 1
 
 -- the same room with nothing in it
 abbrev pub emptyRoom : Book
-emptyRoom = bookOf (0 ∷ []) (0 ∷ []) (replicate 64 0) (0 ∷ []) (0 ∷ []) 0
+emptyRoom = bookOf (0 ∷ []) (0 ∷ []) (zeros 64) (0 ∷ []) (0 ∷ []) 0
 
 abbrev pub cardB : List ℕ
 cardB =
@@ -36,13 +37,13 @@ fullRoom =
 -- the same room with book B in it: the first row is B's with zeros after its key, the second is as it was
 abbrev pub roomWithB : Book
 roomWithB =
-    bookOf (7 ∷ 9 ∷ []) (4 ∷ 3 ∷ []) (1 ∷ 2 ∷ 3 ∷ 4 ∷ (replicate 60 0 ++ (0x21 ∷ 0x22 ∷ 0x23 ∷ replicate 61 0xFF))) (10 ∷ 12 ∷ []) (3 ∷ 14 ∷ []) 1
+    bookOf (7 ∷ 9 ∷ []) (4 ∷ 3 ∷ []) (1 ∷ 2 ∷ 3 ∷ 4 ∷ (zeros 60 ++ (0x21 ∷ 0x22 ∷ 0x23 ∷ replicate 61 0xFF))) (10 ∷ 12 ∷ []) (3 ∷ 14 ∷ []) 1
 
 pub record Example1 : Type 0 where
   pub card : cardOf (rowsOf bookB) ≡ cardB
   pub size : length cardB ≡ 34
   pub written-size : writeOf bookB 34 ≡ Size 34
-  pub written-bytes : roomAfter bookB (replicate 34 0) ≡ cardB
+  pub written-bytes : roomAfter bookB (zeros 34) ≡ cardB
   pub read-back : readOf fullRoom cardB ≡ Rows 1
   pub read-book : readBook fullRoom cardB ≡ roomWithB
 

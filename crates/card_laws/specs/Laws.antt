@@ -3,11 +3,11 @@
 use mathlib.Core.Path.{_≡_}
 use mathlib.Core.List.{List, [], _∷_, _++_}
 use Prim.Native.Nat.{ℕ, zero, suc, _+_, _*_, _≤_, _<_}
-use lib.ListN.{length, getD, take, drop, replicate}
+use lib.ListN.{length, getD, take, drop}
 use Rattle.key_book.specs.Limits.{rowsMost, slotSize}
 use Rattle.key_book.specs.Book.{Book, Lent, Sized, Sound}
 use Rattle.key_book.specs.Laws.{SameKey}
-use Rattle.octets.specs.Bytes.{Bytes}
+use Rattle.octets.specs.Bytes.{Bytes, zeros}
 use Rattle.book_card.specs.Card.{Row, noRow, InOrder, cardOf}
 use Rattle.book_card.specs.Layout.{keyAt, closeSize}
 use Rattle.book_card.specs.Reading.{readOf, readBook}
@@ -22,7 +22,7 @@ cardMost = rowsMost * (keyAt + slotSize) + closeSize
 -- as many rows as there may be, from an id on, each with the longest key
 unfoldable pub fullRows : ℕ → ℕ → List Row
 fullRows id zero = []
-fullRows id (suc n) = record { id = id; received = 0; sent = 0; key = replicate slotSize 0 } ∷ fullRows (suc id) n
+fullRows id (suc n) = record { id = id; received = 0; sent = 0; key = zeros slotSize } ∷ fullRows (suc id) n
 
 pub record LargestCard : Type 0 where
   pub most : (rows : List Row) → InOrder rows → length (cardOf rows) ≤ cardMost
@@ -37,9 +37,9 @@ pub record RowSet (c : Book) (k : ℕ) (r : Row) : Type 0 where
   pub received : getD (c .received) k 0 ≡ r .received
   pub sent : getD (c .sent) k 0 ≡ r .sent
   pub key : (i : ℕ) → i < length (r .key) → getD (c .store) (slotSize * k + i) 0 ≡ getD (r .key) i 0
-  pub zeros : (i : ℕ) → length (r .key) ≤ i → i < slotSize → getD (c .store) (slotSize * k + i) 0 ≡ 0
+  pub zero-behind : (i : ℕ) → length (r .key) ≤ i → i < slotSize → getD (c .store) (slotSize * k + i) 0 ≡ 0
 
--- a list from its element n on is as it was, and no longer or shorter
+-- a list from its element n on is as it was, and neither longer nor shorter
 pub record LeftFrom (n : ℕ) (before after : List ℕ) : Type 0 where
   pub same : (k : ℕ) → n ≤ k → getD after k 0 ≡ getD before k 0
   pub long : length after ≡ length before

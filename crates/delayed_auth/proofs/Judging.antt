@@ -1,5 +1,5 @@
 -- The ends of a check, each as one case: what is so where the answer is this one (`check-case`), and that the answer is this one where that is
--- so (`case-check`). The only file that unfolds `checkOf` and its stages.
+-- so (`case-check`). The only law file that unfolds `checkOf` and its stages.
 use mathlib.Core.Path.{_≡_, refl, sym, ap, _∙_}
 use mathlib.Core.Logic.{_≢_}
 use mathlib.Core.Bool.{Bool, true, false}

@@ -1,4 +1,4 @@
--- Laws of comparing and computing MACs. The only file that unfolds `sameBytes`.
+-- Laws of comparing and computing MACs. The only law file that unfolds `sameBytes`.
 use mathlib.Core.Path.{_≡_, refl, sym, ap, _∙_}
 use mathlib.Core.Logic.{_≢_}
 use mathlib.Core.Bool.{Bool, true, false, _&&_, and-eq-true-iff}
@@ -7,8 +7,9 @@ use Prim.Native.Nat.{ℕ, suc, _+_, _-_, _≤_, _<_}
 use native.Mathlib.Omega.{arith}
 use borrow.Author.Tests.{eq-eqb, eqb-true}
 use lib.Dec.{eqb}
-use lib.ListN.{length, getD, take, drop, replicate, length-drop, length-replicate, drop-of-length-le}
+use lib.ListN.{length, getD, take, drop, length-drop, length-replicate, drop-of-length-le}
 use lib.Seq.{drop-cons, take-at, length-take-le}
+use Rattle.octets.specs.Bytes.{zeros}
 use Rattle.hmac_md5.specs.Hmac.{hmac, hmacOf, keyMost}
 use Rattle.hmac_md5.specs.declared.Mac.{Mac}
 use Rattle.hmac_md5.proofs.Masks.{hmac-taken}
@@ -76,7 +77,7 @@ differ-same xs ys h = on (sameBytes xs ys) refl
 
 module _ (m : List ℕ) (a : Auth) (full : formOf m ≡ Full a) where
   abbrev zeroRoom : List ℕ
-  zeroRoom = replicate messageMost 0
+  zeroRoom = zeros messageMost
 
   covers : (coverSize m a zeroRoom ≡ length (imageOf m)) × (coverLeft m a zeroRoom ≡ imageOf m ++ drop (length (imageOf m)) zeroRoom)
   covers = seal-laws .covers m a zeroRoom full (rw (length-replicate {A = ℕ} messageMost 0) (full-form m a full .most))

@@ -1,4 +1,4 @@
--- The ends of the key of a message, each as one case, and back. The only file that unfolds `keyedOf` and its stage.
+-- The ends of the key of a message, each as one case, and back. The only law file that unfolds `keyedOf` and its stage.
 use mathlib.Core.Path.{_≡_, refl, sym, ap, _∙_}
 use mathlib.Core.List.{List}
 use mathlib.Core.Option.{Option, none, some}

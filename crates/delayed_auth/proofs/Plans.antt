@@ -1,4 +1,4 @@
--- The ends of a seal: each plan as one case, and back; and what a plan leads to. The only file that unfolds `planOf` and its stages, and `sealOf`.
+-- The ends of a seal: each plan as one case, and back; and what a plan leads to. The only law file that unfolds `planOf` and its stages, and `sealOf`.
 use mathlib.Core.Path.{_≡_, refl, sym, ap, _∙_}
 use mathlib.Core.Logic.{_≢_}
 use mathlib.Core.Bool.{Bool, true, false}

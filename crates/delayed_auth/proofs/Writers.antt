@@ -1,4 +1,4 @@
--- What the two writers leave in a message, one after the other: the message that `sealedMessage` says. The only file that unfolds it.
+-- What the two writers leave in a message, one after the other: the message that `sealedMessage` says. The only law file that unfolds it.
 use mathlib.Core.Path.{_≡_, refl, sym, ap, subst, _∙_}
 use mathlib.Core.List.{List, _++_}
 use Prim.Native.Nat.{ℕ, _+_, _-_, _^_, _≤_, _<_}

@@ -1,11 +1,12 @@
 -- Bench examples 3 to 7 and the message whose bytes differ, computed over the definitions.
 use mathlib.Core.Path.{_≡_, refl}
-use Prim.Native.Nat.{ℕ, zero, suc, _≤_}
+use Prim.Native.Nat.{ℕ, _≤_}
 use native.Mathlib.Omega.{arith}
 use mathlib.Core.List.{List, [], _∷_, _++_}
 use lib.ListN.{length, take, drop}
-use Rattle.octets.specs.Bytes.{Bytes, written, zeros, upFrom}
+use Rattle.octets.specs.Bytes.{written, upFrom}
 use Rattle.octets.specs.Numbers.{be, bigAt}
+use Rattle.octets.proofs.Elements.{bytes-zeros}
 use Rattle.dhcp_message.specs.Options.{Token, pad, opt, encode, Reads, decodeAt}
 use Rattle.dhcp_message.specs.Message.{checkedTokens, checkedOf, Passes27}
 use Rattle.dhcp_message.specs.Said.{saidBy, saidOf, formOf}
@@ -14,10 +15,6 @@ use Rattle.dhcp_message.specs.Scan.{seenOf, scanOf}
 use Rattle.dhcp_message.specs.Relay.{RelayChange, added, replaced, removed, Permitted}
 use Rattle.dhcp_message.specs.Seal.{fieldsPut, macPut}
 use Rattle.dhcp_message.specs.Bench.{BenchExamples, distinctOf, distinct, LayoutPinned}
-
-bytes-zeros : (n : ℕ) → Bytes (zeros n)
-bytes-zeros zero = tt
-bytes-zeros (suc n) = (omega arith, bytes-zeros n)
 
 pub bench-examples : BenchExamples
 unfolding formOf checkedOf checkedTokens decodeAt saidBy bigAt

@@ -23,7 +23,7 @@ abbrev pub fullAuth : ℕ → ℕ → ℕ → List ℕ → List ℕ
 fullAuth protocol counter id mac = 90 ∷ 31 ∷ protocol ∷ 1 ∷ 0 ∷ 0 ∷ 0 ∷ 0 ∷ 0 ∷ 0 ∷ 0 ∷ 0 ∷ counter ∷ 0 ∷ 0 ∷ 0 ∷ id ∷ mac
 
 abbrev pub someMac : List ℕ
-someMac = 1 ∷ 2 ∷ 3 ∷ 4 ∷ 5 ∷ 6 ∷ 7 ∷ 8 ∷ 9 ∷ 10 ∷ 11 ∷ 12 ∷ 13 ∷ 14 ∷ 15 ∷ 16 ∷ []
+someMac = upFrom 1 16
 
 -- the number of each: that of the lowest of checks 2 to 9 that applies
 pub record BenchExamples : Type 0 where

@@ -1,5 +1,5 @@
 -- Where things stand in a DHCP message, and how large they are. RFC 2131 decides the header, RFC 2132 and 3046 the options,
--- RFC 3118 option 90, docs/RULES.md, 'The message' the limits.
+-- RFC 3118 option 90, docs/RULES.md, 'The message', the limits.
 -- Contracts and definitions have these numbers from here, the code has them from src/layout.rt. Proofs write them as numbers, which are the same by
 -- computation; and Bench pins each by what it does to bytes, written as numbers on purpose.
 use Prim.Native.Nat.{ℕ, _+_, _-_}

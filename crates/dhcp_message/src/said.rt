@@ -1,4 +1,4 @@
-// Checks 8 and 9: what option 90 says.
+// What option 90 says: checks 8 and 9, and with those before them 2 to 9 (docs/RULES.md, 'The message' and 'Numbers'; RFC 3118, section 5).
 ghost use mathlib.Core.Path.{_≡_};
 ghost use Prim.Native.Nat.{_+_, _≤_};
 ghost use lib.ListN.{length, getD, drop};
@@ -25,6 +25,7 @@ use crate::scan::Shape;
 use crate::scan::shape_of;
 use refusal::Refusal;
 
+// Whether an option 90 has the bytes of delayed authentication with HMAC-MD5 and a counter: protocol, algorithm, replay method.
 fn is_delayed(message: &[u8], at: usize) -> bool
     requires { ⌜ at + counterAt ≤ length (now message) ⌝ }
     ensures { λ r. ⌜ r ≡ starts delayed (drop (at + methodAt) (now (message .entry))) ⌝ }

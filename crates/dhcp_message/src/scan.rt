@@ -57,6 +57,7 @@ pub(crate) enum Shape {
     Passed(Places),
 }
 
+// What stands at an offset of the options.
 fn here_at(message: &[u8], at: usize) -> Here
     ensures { λ r. ⌜ r ≡ hereAt (now (message .entry)) at ⌝ }
 {
@@ -179,6 +180,7 @@ fn shape_found(f: Tally, end: usize) -> Shape
     Shape::Refused(Refusal::RelayInformation)
 }
 
+// Whether the magic cookie stands before the options.
 fn is_cookie(message: &[u8]) -> bool
     requires { ⌜ headerSize ≤ length (now message) ⌝ }
     ensures { λ r. ⌜ r ≡ starts magicCookie (drop cookieAt (now (message .entry))) ⌝ }

@@ -1,4 +1,4 @@
--- The content of a file: what a room holds of it (`fileIn`), and what may be judged of it (`readable`). The only file that unfolds these two.
+-- The content of a file: what a room holds of it (`fileIn`), and what may be judged of it (`readable`). The only law file that unfolds these two.
 use Prim.Native.Nat.{ℕ, _≤_, _<_}
 use mathlib.Core.Path.{_≡_, refl, ap, _∙_}
 use mathlib.Core.List.{List}

@@ -1,4 +1,4 @@
--- The key of a row, by whether it fits the store. The only file that unfolds `keyFits`, `keyStart` and `keyIn`.
+-- The key of a row, by whether it fits the store. The only law file that unfolds `keyFits`, `keyStart` and `keyIn`.
 use mathlib.Core.Path.{_≡_, sym, ap}
 use mathlib.Core.Bool.{true, and-eq-true-iff}
 use mathlib.Core.List.{List, []}

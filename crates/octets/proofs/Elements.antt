@@ -5,7 +5,7 @@ use mathlib.Core.List.{List, [], _∷_, _++_}
 use mir.Syntax.{w8}
 use mir.Val.{Fits}
 use lib.ListN.{length, take, drop, getD, take-append-drop}
-use Rattle.octets.specs.Bytes.{Bytes, written}
+use Rattle.octets.specs.Bytes.{Bytes, written, zeros}
 
 pub bytes-append : (p q : List ℕ) → Bytes p → Bytes q → Bytes (p ++ q)
 bytes-append [] q a b = b
@@ -44,3 +44,7 @@ bytes-of (x ∷ m) g = (g 0, bytes-of m (λ k. g (suc k)))
 -- the same, in the words of what is lent to a function
 pub bytes-lent : (m : List ℕ) → ((k : ℕ) → Fits w8 (getD m k 0)) → Bytes m
 bytes-lent m g = bytes-of m (λ k. omega (arith, g k))
+
+pub bytes-zeros : (n : ℕ) → Bytes (zeros n)
+bytes-zeros zero = tt
+bytes-zeros (suc n) = (omega arith, bytes-zeros n)

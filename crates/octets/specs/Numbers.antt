@@ -1,4 +1,4 @@
--- Numbers in so many bytes: the lowest byte first (RFC 1321, and the card), or the highest first (network order, RFC 2131).
+-- Numbers in so many bytes: the lowest byte first (RFC 1321, and the card), or the highest first (network order: RFC 2132, section 2).
 use Prim.Native.Nat.{ℕ, zero, suc, _+_, _*_, _/_, _%_}
 use mathlib.Core.List.{List, [], _∷_, _++_}
 use lib.ListN.{getD, take, drop}

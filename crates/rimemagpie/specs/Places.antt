@@ -1,4 +1,4 @@
--- The places of results that C lends: each holds the result after an answer, and after a refusal what it held before.
+-- The places of results that C lends, digests and MACs apart: each holds the result after an answer, and after a refusal what it held before.
 use Prim.Native.Nat.{ℕ, _*_}
 use lib.ListN.{length}
 use Rattle.key_book.specs.Limits.{slotSize}

@@ -1,7 +1,7 @@
 // The library as C calls it: every entry as an exported function, with its number (docs/RULES.md, 'Numbers') as its result. Names are those of
 // include/rimemagpie.h, for parameters too.
-// Each takes its answer apart and adds nothing of its own. The book is lent as in delayed_auth; a further result goes to a lent place,
-// which a refusal leaves as it was.
+// Each takes an entry's answer apart and decides nothing. The book is lent as in delayed_auth; a further result goes to a lent place, which a refusal
+// leaves as it was, but that a digest or MAC refused with 14 is 16 zero bytes there.
 //
 // A slice is a pointer and a length to C. That these are right, and that what is lent doesn't overlap, is up to the caller.
 ghost use mathlib.Core.Path.{_≡_};

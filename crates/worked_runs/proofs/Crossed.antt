@@ -1,4 +1,4 @@
--- The second worked run, computed as in proofs/Shuffled.antt.
+-- specs/Crossed.antt, computed as in proofs/Shuffled.antt; a book that differs in secret B by the law of demands/specs/History.antt.
 use mathlib.Core.Path.{_≡_, refl, sym, ap, subst, _∙_}
 use mathlib.Core.Bool.{true}
 use mathlib.Core.Option.{some, Option·some-injective}

@@ -1,4 +1,4 @@
--- The worked second run, computed (proofs/Computing.antt): what each step answers, down to MD5 for each MAC, and the rest by proofs/Network.antt.
+-- specs/Shuffled.antt, computed (proofs/Computing.antt): what each step answers, down to MD5 for each MAC, and the rest by proofs/Network.antt.
 use mathlib.Core.Path.{_≡_, refl}
 use mathlib.Core.Bool.{true}
 use mathlib.Core.List.{List, [], _∷_, _++_}

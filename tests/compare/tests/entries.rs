@@ -212,7 +212,7 @@ fn card_read() {
 
 fn card_read_case(random: &mut Random, book: &Book, card: &[u8]) -> Result<u8, Difference> {
     let mut book_after = book.clone();
-    let expected = reference::read_card(card, &mut book_after);
+    let expected = reference::card_read(card, &mut book_after);
 
     let mut lent = LentBook::new(book, random);
     let lent_card = Lent::new(card, random);
@@ -291,7 +291,7 @@ fn card_write() {
 fn card_write_case(random: &mut Random, book: &Book) -> Result<u8, Difference> {
     let room = room_to_write(random, book);
     let mut room_after = room.clone();
-    let expected = reference::write_card(book, &mut room_after);
+    let expected = reference::card_write(book, &mut room_after);
 
     let lent = LentBook::new(book, random);
     let mut lent_room = Lent::new(&room, random);

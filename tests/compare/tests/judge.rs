@@ -9,7 +9,7 @@ use compare::outside::{judge, repository_file, run, run_well, run_within, Folder
 use compare::random::Random;
 use reference::card::{card_of_rows, rows_of_book, Row};
 use reference::examples::{accepted_by_b, message_with, refused_by_b, CARD_B, CARD_EMPTY};
-use reference::{check, read_card, Book};
+use reference::{check, card_read, Book};
 use std::fs;
 use std::io::Write;
 use std::path::PathBuf;
@@ -366,7 +366,7 @@ fn expected_line(card: &[u8], message: &[u8]) -> (u8, String) {
         sent: vec![0; 64],
         rows: 0,
     };
-    let answer = read_card(card, &mut book).and_then(|rows| {
+    let answer = card_read(card, &mut book).and_then(|rows| {
         book.rows = rows;
         check(&mut book, message)
     });

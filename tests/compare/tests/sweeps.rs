@@ -165,8 +165,8 @@ fn read(card: &[u8]) -> u8 {
         rows: 0,
     };
     let (mut expected_book, mut found_book) = (room.clone(), room);
-    let expected = reference::read_card(card, &mut expected_book);
-    let answer = compare::runs::lend(&mut found_book).read_card(card);
+    let expected = reference::card_read(card, &mut expected_book);
+    let answer = compare::runs::lend(&mut found_book).card_read(card);
     let number = answer.map_or_else(|refusal| refusal.number(), |()| 0);
     assert_eq!(number, number_of(&expected), "{card:?}");
     assert_eq!(found_book, expected_book, "{card:?}");

@@ -46,12 +46,12 @@ fn room_for(n: usize) -> Book {
 #[test]
 fn example_1_card_of_b() {
     let mut room = [0; 34];
-    assert_eq!(lend(&mut book_b()).write_card(&mut room), Ok(34));
+    assert_eq!(lend(&mut book_b()).card_write(&mut room), Ok(34));
     assert_eq!(room, CARD_B);
 
     let mut read = room_for(1);
     let mut lent = lend(&mut read);
-    assert_eq!(lent.read_card(&CARD_B), Ok(()));
+    assert_eq!(lent.card_read(&CARD_B), Ok(()));
     read.rows = lent.rows;
     assert_eq!(read, book_b());
 }
@@ -62,9 +62,9 @@ fn example_2_empty_card() {
     book.rows = 1;
     let mut lent = lend(&mut book);
     let longer = [&CARD_EMPTY[..], &[0]].concat();
-    assert_eq!(lent.read_card(&longer), Err(Refusal::MalformedCard));
+    assert_eq!(lent.card_read(&longer), Err(Refusal::MalformedCard));
     assert_eq!(lent.rows, 1);
-    assert_eq!(lent.read_card(&CARD_EMPTY), Ok(()));
+    assert_eq!(lent.card_read(&CARD_EMPTY), Ok(()));
     assert_eq!(lent.rows, 0);
 }
 
@@ -95,7 +95,7 @@ fn example_10_key_lengths() {
     for (length, expected) in [(64, Ok(34 + 60)), (65, Err(Refusal::UnsoundBook))] {
         let mut book = book_b();
         book.lengths[0] = length;
-        let answer = lend(&mut book).write_card(&mut [0; 200]);
+        let answer = lend(&mut book).card_write(&mut [0; 200]);
         assert_eq!(answer, expected);
     }
 }

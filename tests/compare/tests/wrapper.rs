@@ -113,8 +113,8 @@ fn cards_read_and_written() {
 
 fn same_written(book: &Book) -> Result<(), Difference> {
     let (mut room_after, mut room) = ([7; 1_000], [7; 1_000]);
-    let expected = reference::write_card(book, &mut room_after);
-    let found = lend(&mut book.clone()).write_card(&mut room);
+    let expected = reference::card_write(book, &mut room_after);
+    let found = lend(&mut book.clone()).card_write(&mut room);
     same("the size", &numbered_reference(expected), &numbered(found))?;
     same("the card", &room_after, &room)
 }
@@ -122,11 +122,11 @@ fn same_written(book: &Book) -> Result<(), Difference> {
 /// The row count becomes the card's on 0 and stays on a refusal.
 fn same_read(book: &Book, card: &[u8]) -> Result<(), Difference> {
     let mut book_after = book.clone();
-    let expected = reference::read_card(card, &mut book_after);
+    let expected = reference::card_read(card, &mut book_after);
     book_after.rows = expected.unwrap_or(book.rows);
     let mut found = book.clone();
     let mut lent = lend(&mut found);
-    let answer = lent.read_card(card);
+    let answer = lent.card_read(card);
     let rows = lent.rows;
     found.rows = rows;
     let number = answer.map_or_else(|refusal| refusal.number(), |()| 0);

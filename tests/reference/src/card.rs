@@ -24,7 +24,7 @@ pub struct Row {
 
 /// Reads a card into the lent parts: numbers 1, 15, 17. Returns the number of rows; `book.rows`
 /// stays as it was.
-pub fn read_card(card: &[u8], book: &mut Book) -> Result<usize, Refusal> {
+pub fn card_read(card: &[u8], book: &mut Book) -> Result<usize, Refusal> {
     if !book.sizes_agree() {
         return Err(Refusal::UnsoundBook);
     }
@@ -45,7 +45,7 @@ pub fn read_card(card: &[u8], book: &mut Book) -> Result<usize, Refusal> {
 }
 
 /// Writes a book's card into the first bytes of the room: numbers 1, 16. Returns the card's size.
-pub fn write_card(book: &Book, room: &mut [u8]) -> Result<usize, Refusal> {
+pub fn card_write(book: &Book, room: &mut [u8]) -> Result<usize, Refusal> {
     if !book.is_sound() {
         return Err(Refusal::UnsoundBook);
     }
@@ -192,7 +192,7 @@ mod tests {
             rows: 0,
         };
         let card = card_of_rows(&rows(2, 5));
-        assert_eq!(read_card(&card, &mut book), Ok(2));
+        assert_eq!(card_read(&card, &mut book), Ok(2));
         assert_eq!(book.ids, [0, 1, 9]);
         assert_eq!(book.lengths, [5, 5, 9]);
         assert_eq!(book.store[64..69], [1; 5]);

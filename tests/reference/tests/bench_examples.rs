@@ -3,7 +3,7 @@
 
 use reference::examples::{accepted_by_b, book_b, refused_by_b, CARD_B, CARD_EMPTY};
 use reference::refusal::number_of;
-use reference::{check, read_card, write_card, Accepted, Book, Refusal};
+use reference::{check, card_read, card_write, Accepted, Book, Refusal};
 
 /// Room for some rows, all bytes and numbers 0.
 fn room_for(n: usize) -> Book {
@@ -20,20 +20,20 @@ fn room_for(n: usize) -> Book {
 #[test]
 fn example_1_card_of_b() {
     let mut room = [0; 34];
-    assert_eq!(write_card(&book_b(), &mut room), Ok(34));
+    assert_eq!(card_write(&book_b(), &mut room), Ok(34));
     assert_eq!(room, CARD_B);
 
     let mut read = room_for(1);
-    assert_eq!(read_card(&CARD_B, &mut read), Ok(1));
+    assert_eq!(card_read(&CARD_B, &mut read), Ok(1));
     read.rows = 1;
     assert_eq!(read, book_b());
 }
 
 #[test]
 fn example_2_empty_card() {
-    assert_eq!(read_card(&CARD_EMPTY, &mut room_for(0)), Ok(0));
+    assert_eq!(card_read(&CARD_EMPTY, &mut room_for(0)), Ok(0));
     let longer = [&CARD_EMPTY[..], &[0]].concat();
-    let answer = read_card(&longer, &mut room_for(0));
+    let answer = card_read(&longer, &mut room_for(0));
     assert_eq!(answer, Err(Refusal::MalformedCard));
 }
 
