@@ -1,6 +1,6 @@
 -- The ends of reading a card and of writing one, each as one case: what is so where this is answered and this is left (`read-case`, `write-case`), and
 -- that this is answered and left where that is so (`case-read`, `case-write`).
--- The only file that unfolds `readOf`, `readBook`, `rowsIn`, `writeOf` and `roomAfter`.
+-- No other law unfolds `readOf`, `readBook`, `rowsIn`, `writeOf` and `roomAfter`; examples do, to be computed.
 use mathlib.Core.Path.{_≡_, refl, sym, ap, _∙_}
 use mathlib.Core.Bool.{Bool, true, false, cond, true≢false}
 use mathlib.Core.Option.{Option, none, some}
