@@ -1,4 +1,4 @@
--- Setting rows of a book: one from its record on a card, and many one by one.
+-- Setting rows of a book: one from its record on a card, and many one by one. No other law unfolds `setRow` and `loaded`.
 use mathlib.Core.Path.{_≡_, refl, sym, ap, _∙_}
 use mathlib.Core.List.{List, [], _∷_, map}
 use Prim.Native.Nat.{ℕ, suc, _+_, _-_, _*_, _≤_, _<_}

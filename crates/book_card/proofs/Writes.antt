@@ -1,4 +1,4 @@
--- What is written: a book's rows, its card from a row on, and its size. The only file that unfolds `rowsFrom`, `rowsOf` and `sizeTo`.
+-- What is written: a book's rows, its card from a row on, and its size. No other law unfolds `rowsFrom`, `rowsOf` and `sizeTo`.
 use mathlib.Core.Path.{_≡_, refl, sym, ap, ap₂, _∙_}
 use mathlib.Core.List.{List, _++_}
 use Prim.Native.Nat.{ℕ, zero, suc, _+_, _-_, _*_, _≤_, _<_}
@@ -37,6 +37,8 @@ module _ (lengths : List ℕ) (rows : ℕ) where
         let w = s .within in
         let e : row ≡ rows = omega arith in
         rw (← e) (s .sum)
+
+-- ---- the rows of a book
 
 pub rows-length : (b : Book) (k n : ℕ) → length (rowsFrom b k n) ≡ n
 unfolding rowsFrom
