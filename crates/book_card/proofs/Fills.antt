@@ -15,7 +15,7 @@ use Rattle.key_book.specs.Book.{Book, bookOf, Sized, sized}
 use Rattle.key_book.specs.Laws.{Within}
 use Rattle.key_book.proofs.Says.{sized-says}
 use Rattle.book_card.specs.Layout.{keyAt}
-use Rattle.book_card.specs.Card.{Row, rowRecord, rowRecords, close, cardOf, noRow, InOrder, RowFits}
+use Rattle.book_card.specs.Card.{Row, rowRecord, rowRecords, close, cardOf, emptyRow, InOrder, RowFits}
 use Rattle.book_card.specs.Reader.{frontOf, rowFront, readCard, countedFrom}
 use Rattle.book_card.specs.Reading.{setRow, loaded, readOf, rowsIn, readBook}
 use Rattle.book_card.specs.declared.Front.{Front}
@@ -85,7 +85,7 @@ module _ {card : List ℕ} {n : ℕ} {b c : Book} {at row : ℕ} (f : Filling ca
   rows = rowsIn card
 
   abbrev r : Row
-  r = getD rows row noRow
+  r = getD rows row emptyRow
 
   abbrev after : List ℕ
   after = rowRecords (drop (suc row) rows) ++ close (length rows)
@@ -98,7 +98,7 @@ module _ {card : List ℕ} {n : ℕ} {b c : Book} {at row : ℕ} (f : Filling ca
 
   at-row : drop at card ≡ rowRecord r ++ after
   at-row =
-      f .place ∙ ap (λ (x : List Row). rowRecords x ++ close (length rows)) (drop-cons rows row noRow here-row)
+      f .place ∙ ap (λ (x : List Row). rowRecords x ++ close (length rows)) (drop-cons rows row emptyRow here-row)
       ∙ records-cons r (drop (suc row) rows) (close (length rows))
 
   -- a row stands in front, and nothing else does
@@ -147,7 +147,7 @@ module _ {card : List ℕ} {n : ℕ} {b c : Book} {at row : ℕ} (f : Filling ca
               ∙ ap (λ (m : ℕ). rowRecords (drop m rows) ++ close (length rows)) (sym q);
           rest = ap₂ (λ (x : Book) (m : ℕ). setFrom x (row + 1) (drop m rows)) e₂ q
               ∙ sym (set-cons c (f .sizes) row r (drop (suc row) rows) in-ids to)
-              ∙ ap (setFrom c row) (sym (drop-cons rows row noRow here-row)) ∙ f .rest;
+              ∙ ap (setFrom c row) (sym (drop-cons rows row emptyRow here-row)) ∙ f .rest;
         }
 
 pub filling-end : {card : List ℕ} {n : ℕ} {b c : Book} {at row : ℕ} → Filling card n b c at row → n ≤ row

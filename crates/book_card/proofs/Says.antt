@@ -16,7 +16,7 @@ use Rattle.octets.specs.Bytes.{Bytes}
 use Rattle.octets.proofs.Elements.{bytes-drop}
 use Rattle.key_book.specs.Limits.{rowsMost}
 use Rattle.book_card.specs.Layout.{countSize, keyAt, closeSize}
-use Rattle.book_card.specs.Card.{Row, rowRecord, rowRecords, close, cardOf, RowFits, noRow, InOrder}
+use Rattle.book_card.specs.Card.{Row, rowRecord, rowRecords, close, cardOf, RowFits, emptyRow, InOrder}
 use Rattle.book_card.specs.Reader.{frontOf, rowFront, CardEnd, closed, fault, FrontRows}
 use Rattle.book_card.specs.Reader.{ended, withRow, stepFrom, frontFrom, rowsInFront, rowsBy, cardIn, readCard}
 use Rattle.book_card.specs.Laws.{FrontSays, CardSays, MalformedSays}
@@ -31,7 +31,7 @@ unfoldable pub After : ℕ → List Row → Type 0
 After low [] = Unit {0}
 After low (r ∷ rows) = (low ≤ r .id) × (RowFits r × After (suc (r .id)) rows)
 
-after-at : (low : ℕ) (rows : List Row) → After low rows → (k : ℕ) → k < length rows → (low ≤ getD rows k noRow .id) × RowFits (getD rows k noRow)
+after-at : (low : ℕ) (rows : List Row) → After low rows → (k : ℕ) → k < length rows → (low ≤ getD rows k emptyRow .id) × RowFits (getD rows k emptyRow)
 unfolding After
 after-at low [] a k h = absurd (omega arith)
 after-at low (r ∷ rows) a zero h = (a .0, a .1 .0)
@@ -41,16 +41,16 @@ after-at low (r ∷ rows) a (suc k) h =
     let m = t .0 in
     (omega arith, t .1)
 
-after-ascends : (low : ℕ) (rows : List Row) → After low rows → (j k : ℕ) → j < k → k < length rows → getD rows j noRow .id < getD rows k noRow .id
+after-ascends : (low : ℕ) (rows : List Row) → After low rows → (j k : ℕ) → j < k → k < length rows → getD rows j emptyRow .id < getD rows k emptyRow .id
 unfolding After
 after-ascends low [] a j k l h = absurd (omega arith)
 after-ascends low (r ∷ rows) a j zero l h = absurd (omega arith)
 after-ascends low (r ∷ rows) a zero (suc k) l h = let t = after-at (suc (r .id)) rows (a .1 .1) k (omega arith) .0 in omega arith
 after-ascends low (r ∷ rows) a (suc j) (suc k) l h = after-ascends (suc (r .id)) rows (a .1 .1) j k (omega arith) (omega arith)
 
-ascends-after : (low : ℕ) (rows : List Row) → ((k : ℕ) → k < length rows → low ≤ getD rows k noRow .id)
-    → ((k : ℕ) → k < length rows → RowFits (getD rows k noRow))
-    → ((j k : ℕ) → j < k → k < length rows → getD rows j noRow .id < getD rows k noRow .id) → After low rows
+ascends-after : (low : ℕ) (rows : List Row) → ((k : ℕ) → k < length rows → low ≤ getD rows k emptyRow .id)
+    → ((k : ℕ) → k < length rows → RowFits (getD rows k emptyRow))
+    → ((j k : ℕ) → j < k → k < length rows → getD rows j emptyRow .id < getD rows k emptyRow .id) → After low rows
 unfolding After
 ascends-after low [] l f a = tt
 ascends-after low (r ∷ rows) l f a = (

@@ -9,7 +9,7 @@ use lib.Seq.{drop-drop, drop-at}
 use Rattle.octets.specs.Bytes.{filled}
 use Rattle.octets.proofs.Filled.{length-filled}
 use Rattle.key_book.specs.Limits.{slotSize}
-use Rattle.book_card.specs.Card.{Row, noRow}
+use Rattle.book_card.specs.Card.{Row, emptyRow}
 use Rattle.book_card.specs.Reading.{slotsOf}
 
 abbrev pub slotOf : List ℕ → List ℕ
@@ -28,7 +28,7 @@ slots-cons r rows = refl
 
 -- rows whose keys fit their slots
 abbrev pub Fit : List Row → Type 0
-Fit rows = (k : ℕ) → k < length rows → length (getD rows k noRow .key) ≤ slotSize
+Fit rows = (k : ℕ) → k < length rows → length (getD rows k emptyRow .key) ≤ slotSize
 
 pub slots-length : (rows : List Row) → Fit rows → length (slotsOf rows) ≡ slotSize * length rows
 slots-length [] h = ap length slots-none
@@ -51,7 +51,7 @@ module _ (r : Row) (rows : List Row) (h : length (r .key) ≤ slotSize) where
       ∙ ap (drop (slotSize * n)) (drop-at slot (slotsOf rows) slotSize (slot-length (r .key) h))
 
 pub slots-at : (rows : List Row) (k : ℕ) → Fit rows → k < length rows
-    → drop (slotSize * k) (slotsOf rows) ≡ slotOf (getD rows k noRow .key) ++ drop (slotSize * suc k) (slotsOf rows)
+    → drop (slotSize * k) (slotsOf rows) ≡ slotOf (getD rows k emptyRow .key) ++ drop (slotSize * suc k) (slotsOf rows)
 slots-at [] k h l = absurd (omega arith)
 slots-at (r ∷ rows) zero h l =
     slots-cons r rows ∙ ap (λ (x : List ℕ). slotOf (r .key) ++ x) (sym (slots-next r rows (h 0 (omega arith)) 0))
@@ -59,4 +59,4 @@ slots-at (r ∷ rows) (suc k) h l =
     let t = h 0 (omega arith) in
     slots-next r rows t k
     ∙ slots-at rows k (λ j m. h (suc j) (omega arith)) (omega arith)
-    ∙ ap (λ (x : List ℕ). slotOf (getD rows k noRow .key) ++ x) (sym (slots-next r rows t (suc k)))
+    ∙ ap (λ (x : List ℕ). slotOf (getD rows k emptyRow .key) ++ x) (sym (slots-next r rows t (suc k)))

@@ -9,7 +9,7 @@ use lib.Seq.{ext-getD}
 use Rattle.key_book.specs.Book.{Book, Sound}
 use Rattle.key_book.proofs.Says.{key-says}
 use Rattle.book_card.specs.Layout.{keyAt, closeSize}
-use Rattle.book_card.specs.Card.{Row, noRow, rowRecord, close, rowRecords, cardOf}
+use Rattle.book_card.specs.Card.{Row, emptyRow, rowRecord, close, rowRecords, cardOf}
 use Rattle.book_card.specs.Writing.{rowAt, rowsFrom, rowsOf, sizeTo}
 use Rattle.book_card.proofs.Shape.{row-size, close-size, records-cons, records-none, card-is}
 
@@ -45,14 +45,14 @@ unfolding rowsFrom
 rows-length b k zero = refl
 rows-length b k (suc n) = ap suc (rows-length b (suc k) n)
 
-rows-at : (b : Book) (k n i : ℕ) → i < n → getD (rowsFrom b k n) i noRow ≡ rowAt b (k + i)
+rows-at : (b : Book) (k n i : ℕ) → i < n → getD (rowsFrom b k n) i emptyRow ≡ rowAt b (k + i)
 unfolding rowsFrom
 rows-at b k zero i h = absurd (omega arith)
 rows-at b k (suc n) zero h = ap (rowAt b) (sym (add-zero k))
 rows-at b k (suc n) (suc i) h = let e : suc k + i ≡ k + suc i = omega arith in rows-at b (suc k) n i (omega arith) ∙ ap (rowAt b) e
 
 module _ (b : Book) where
-  pub row-is : (k : ℕ) → k < b .rows → getD (rowsOf b) k noRow ≡ rowAt b k
+  pub row-is : (k : ℕ) → k < b .rows → getD (rowsOf b) k emptyRow ≡ rowAt b k
   unfolding rowsOf
   row-is k h = rows-at b 0 (b .rows) k h ∙ ap (rowAt b) (zero-add k)
 
@@ -61,8 +61,8 @@ module _ (b : Book) where
   rows-count = rows-length b 0 (b .rows)
 
   -- they are these rows, if each of them is
-  pub rows-are : (rows : List Row) → length rows ≡ b .rows → ((k : ℕ) → k < b .rows → rowAt b k ≡ getD rows k noRow) → rowsOf b ≡ rows
-  rows-are rows l g = let c = rows-count in ext-getD noRow (rowsOf b) rows (omega arith) (λ k h. row-is k (omega arith) ∙ g k (omega arith))
+  pub rows-are : (rows : List Row) → length rows ≡ b .rows → ((k : ℕ) → k < b .rows → rowAt b k ≡ getD rows k emptyRow) → rowsOf b ≡ rows
+  rows-are rows l g = let c = rows-count in ext-getD emptyRow (rowsOf b) rows (omega arith) (λ k h. row-is k (omega arith) ∙ g k (omega arith))
 
 -- the bytes of a book's card from a row on
 unfoldable pub restOf : Book → ℕ → ℕ → List ℕ

@@ -44,11 +44,11 @@ pub record RowFits (r : Row) : Type 0 where
   pub key-bytes : Bytes (r .key)
 
 -- what stands past the last row, where `getD` is asked for it
-abbrev pub noRow : Row
-noRow = record { id = 0; received = 0; sent = 0; key = [] }
+abbrev pub emptyRow : Row
+emptyRow = record { id = 0; received = 0; sent = 0; key = [] }
 
 -- rows that a card may hold: not too many, each fitting, their ids ascending strictly
 pub record InOrder (rows : List Row) : Type 0 where
   pub few : length rows ≤ rowsMost
-  pub fit : (k : ℕ) → k < length rows → RowFits (getD rows k noRow)
-  pub ascend : (j k : ℕ) → j < k → k < length rows → getD rows j noRow .id < getD rows k noRow .id
+  pub fit : (k : ℕ) → k < length rows → RowFits (getD rows k emptyRow)
+  pub ascend : (j k : ℕ) → j < k → k < length rows → getD rows j emptyRow .id < getD rows k emptyRow .id

@@ -9,7 +9,7 @@ use lib.ListN.{length, getD, drop, length-map, List·getD-append, List·getD-map
 use lib.Seq.{getD-drop, getD-append-add}
 use Rattle.key_book.specs.Limits.{slotSize}
 use Rattle.key_book.specs.Book.{Book, Sized}
-use Rattle.book_card.specs.Card.{Row, cardOf, noRow, InOrder}
+use Rattle.book_card.specs.Card.{Row, cardOf, emptyRow, InOrder}
 use Rattle.book_card.specs.Reader.{readCard}
 use Rattle.book_card.specs.Reading.{slotsOf, loaded}
 use Rattle.book_card.specs.declared.ReadAnswer.the-variants.{Rows}
@@ -41,17 +41,17 @@ front-left new old n e h =
     }
 
 -- a field of each row, written so
-field-at : (f : Row → ℕ) → f noRow ≡ 0 → (rows : List Row) (old : List ℕ) (k : ℕ) → k < length rows
-    → getD (written 0 (map f rows) old) k 0 ≡ f (getD rows k noRow)
+field-at : (f : Row → ℕ) → f emptyRow ≡ 0 → (rows : List Row) (old : List ℕ) (k : ℕ) → k < length rows
+    → getD (written 0 (map f rows) old) k 0 ≡ f (getD rows k emptyRow)
 field-at f z rows old k h =
-    front-new (map f rows) old k (rw (length-map rows f) h) ∙ ap (getD (map f rows) k) (sym z) ∙ List·getD-map f rows k noRow
+    front-new (map f rows) old k (rw (length-map rows f) h) ∙ ap (getD (map f rows) k) (sym z) ∙ List·getD-map f rows k emptyRow
 
 -- byte i of row k's slot, in the slots written over a key store
 slot-at : (rows : List Row) (old : List ℕ) (k i : ℕ) → Fit rows → k < length rows → i < slotSize
-    → getD (written 0 (slotsOf rows) old) (slotSize * k + i) 0 ≡ getD (filled slotSize (getD rows k noRow .key)) i 0
+    → getD (written 0 (slotsOf rows) old) (slotSize * k + i) 0 ≡ getD (filled slotSize (getD rows k emptyRow .key)) i 0
 slot-at rows old k i f h l =
-    let slot = filled slotSize (getD rows k noRow .key) in
-    let z = length-filled slotSize (getD rows k noRow .key) (f k h) in
+    let slot = filled slotSize (getD rows k emptyRow .key) in
+    let z = length-filled slotSize (getD rows k emptyRow .key) (f k h) in
     let s = slots-length rows f in
     front-new (slotsOf rows) old (slotSize * k + i) (omega arith)
     ∙ sym (getD-drop (slotSize * k) (slotsOf rows) i 0)
@@ -62,9 +62,9 @@ module _ (b : Book) (z : Sized b) (rows : List Row) (o : InOrder rows) (room : l
   fit : Fit rows
   fit k h = o .fit k h .key-to
 
-  row-set : (k : ℕ) → k < length rows → RowSet (loaded b rows) k (getD rows k noRow)
+  row-set : (k : ℕ) → k < length rows → RowSet (loaded b rows) k (getD rows k emptyRow)
   row-set k h =
-      let key = getD rows k noRow .key in
+      let key = getD rows k emptyRow .key in
       let t = fit k h in
       rw (loaded-is b rows) (record {
         id = field-at (λ (r : Row). r .id) refl rows (b .ids) k h;

@@ -10,7 +10,7 @@ use Rattle.octets.proofs.Elements.{bytes-append, bytes-left, bytes-zeros}
 use Rattle.octets.proofs.LowFirst.{bytes-le}
 use Rattle.key_book.specs.Limits.{rowsMost, slotSize}
 use Rattle.book_card.specs.Layout.{keyAt}
-use Rattle.book_card.specs.Card.{Row, rowRecord, rowRecords, close, cardOf, noRow, InOrder}
+use Rattle.book_card.specs.Card.{Row, rowRecord, rowRecords, close, cardOf, emptyRow, InOrder}
 use Rattle.book_card.proofs.Shape.{row-fields, close-fields, row-size, close-size, records-cons, records-none, card-is}
 use Rattle.book_card.proofs.Slots.{Fit}
 use Rattle.card_laws.specs.Laws.{fullRows, LargestCard}
@@ -23,7 +23,7 @@ row-bytes r t h k = rw (row-fields r t) (search (bytes-append, bytes-le) depth 1
 close-bytes : (n : ℕ) → Bytes (close n)
 close-bytes n = let e : Bytes [] = tt in bytes-left (close n) [] (rw (close-fields n []) (search (bytes-append, bytes-le) depth 12))
 
-records-bytes : (rows : List Row) (t : List ℕ) → ((k : ℕ) → k < length rows → Bytes (getD rows k noRow .key)) → Bytes t → Bytes (rowRecords rows ++ t)
+records-bytes : (rows : List Row) (t : List ℕ) → ((k : ℕ) → k < length rows → Bytes (getD rows k emptyRow .key)) → Bytes t → Bytes (rowRecords rows ++ t)
 records-bytes [] t h b = rw (records-none t) b
 records-bytes (r ∷ rows) t h b =
     rw (records-cons r rows t) (row-bytes r (rowRecords rows ++ t) (h 0 (omega arith)) (records-bytes rows t (λ k l. h (suc k) (omega arith)) b))
@@ -52,7 +52,7 @@ unfolding fullRows
 full-length id zero = refl
 full-length id (suc n) = ap suc (full-length (suc id) n)
 
-full-at : (id n k : ℕ) → k < n → getD (fullRows id n) k noRow ≡ fullRow (id + k)
+full-at : (id n k : ℕ) → k < n → getD (fullRows id n) k emptyRow ≡ fullRow (id + k)
 unfolding fullRows
 full-at id zero k h = absurd (omega arith)
 full-at id (suc n) zero h = ap fullRow (sym (add-zero id))

@@ -8,7 +8,7 @@ use lib.ListN.{length, getD, take, drop}
 use lib.Seq.{take-at, ext-getD}
 use Rattle.key_book.specs.Book.{Book, Sized, Sound, keyOf}
 use Rattle.key_book.proofs.Says.{key-says}
-use Rattle.book_card.specs.Card.{Row, cardOf, noRow, InOrder}
+use Rattle.book_card.specs.Card.{Row, cardOf, emptyRow, InOrder}
 use Rattle.book_card.specs.Reading.{loaded, readOf, readBook}
 use Rattle.book_card.specs.Writing.{rowAt, rowsOf, roomAfter}
 use Rattle.book_card.specs.declared.ReadAnswer.the-variants.{Rows}
@@ -45,14 +45,14 @@ module _ (b : Book) (z : Sized b) (rows : List Row) (o : InOrder rows) (room : l
         keys-to = λ k h. rw (r .row k (omega arith) .key-size) (o .fit k (omega arith) .key-to);
       }
 
-  loaded-row : (k : ℕ) → k < now .rows → rowAt now k ≡ getD rows k noRow
+  loaded-row : (k : ℕ) → k < now .rows → rowAt now k ≡ getD rows k emptyRow
   loaded-row k h =
       let r = rows-read b z rows o room in
       let u = r .in-use in
       let s = r .row k (omega arith) in
       let q = key-says now loaded-sound k h in
-      let e : keyOf now k ≡ getD rows k noRow .key =
-      ext-getD 0 (keyOf now k) (getD rows k noRow .key) (q .size ∙ s .key-size)
+      let e : keyOf now k ≡ getD rows k emptyRow .key =
+      ext-getD 0 (keyOf now k) (getD rows k emptyRow .key) (q .size ∙ s .key-size)
       (λ i l. q .bytes i l ∙ s .key i (let c = q .size in let d = s .key-size in omega arith)) in
       let i = s .id in
       let v = s .received in

@@ -8,7 +8,7 @@ use Rattle.key_book.specs.Limits.{rowsMost, slotSize}
 use Rattle.key_book.specs.Book.{Book, Lent, Sized, Sound}
 use Rattle.key_book.specs.Laws.{SameKey}
 use Rattle.octets.specs.Bytes.{Bytes, zeros}
-use Rattle.book_card.specs.Card.{Row, noRow, InOrder, cardOf}
+use Rattle.book_card.specs.Card.{Row, emptyRow, InOrder, cardOf}
 use Rattle.book_card.specs.Layout.{keyAt, closeSize}
 use Rattle.book_card.specs.Reading.{readOf, readBook}
 use Rattle.book_card.specs.Writing.{rowsOf, writeOf, roomAfter}
@@ -56,7 +56,7 @@ pub record RowsLeft (n : ℕ) (b c : Book) : Type 0 where
 pub record RowsRead (b : Book) (rows : List Row) (n : ℕ) (c : Book) : Type 0 where
   pub count : n ≡ length rows
   pub in-use : c .rows ≡ n
-  pub row : (k : ℕ) → k < n → RowSet c k (getD rows k noRow)
+  pub row : (k : ℕ) → k < n → RowSet c k (getD rows k emptyRow)
   pub left : RowsLeft n b c
 
 abbrev pub ReadSays : Type 0

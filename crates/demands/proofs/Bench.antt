@@ -19,7 +19,7 @@ use Rattle.delayed_auth.specs.declared.Verdict.{Verdict}
 use Rattle.delayed_auth.specs.Check.{checkOf, verdictNumber}
 use Rattle.card_laws.specs.Examples.{bookB}
 use Rattle.card_laws.proofs.Computed.{example-1, example-2}
-use Rattle.demands.specs.Bench.{wrongMac, BenchTable}
+use Rattle.demands.specs.Bench.{forgedMessage, BenchTable}
 use Rattle.demands.proofs.Below.{said-form}
 use Rattle.demands.proofs.Stages.{CheckEnd, check-unsound, check-refused, check-unknown, check-replay, check-wrong, check-accepts}
 use Rattle.demands.proofs.Stages.{check-end, end-check}
@@ -50,11 +50,11 @@ by-form m n l h v (check-accepts {k} {c} s a) = full-form m c (a .id) (a .mac) n
 
 -- ---- example 8
 
-says-8 : saidOf (wrongMac 11 8) ≡ says 11 8 someMac
+says-8 : saidOf (forgedMessage 11 8) ≡ says 11 8 someMac
 unfolding saidOf saidBy checkedOf checkedTokens decodeAt bigAt
 says-8 = refl
 
-says-7 : saidOf (wrongMac 10 7) ≡ says 10 7 someMac
+says-7 : saidOf (forgedMessage 10 7) ≡ says 10 7 someMac
 unfolding saidOf saidBy checkedOf checkedTokens decodeAt bigAt
 says-7 = refl
 
@@ -66,9 +66,9 @@ row-7 : rowOf bookB 7 ≡ some 0
 unfolding placeFrom rowIn
 row-7 = refl
 
-number-8 : verdictNumber (checkOf bookB (wrongMac 10 7)) ≡ 11
+number-8 : verdictNumber (checkOf bookB (forgedMessage 10 7)) ≡ 11
 number-8 =
-    ap verdictNumber (end-check bookB (wrongMac 10 7) _
+    ap verdictNumber (end-check bookB (forgedMessage 10 7) _
     (check-replay 10 0 someMac good (record { id = 7; form = says-7; secret = row-7 }) (omega arith)))
 
 pub bench-table : BenchTable
@@ -77,7 +77,7 @@ bench-table = record {
   example-2 = example-2;
   examples-3-to-7 = bench-examples;
   on-book-B = λ m n l h. by-form m n l h (checkOf bookB m) (check-end bookB m);
-  example-8-id = ap verdictNumber (end-check bookB (wrongMac 11 8) _ (check-unknown 11 8 someMac good says-8 row-8));
+  example-8-id = ap verdictNumber (end-check bookB (forgedMessage 11 8) _ (check-unknown 11 8 someMac good says-8 row-8));
   example-8-counter = number-8;
   example-10 = example-10;
 }

@@ -11,7 +11,7 @@ use Rattle.dhcp_message.specs.Layout.{macSize, sealSize}
 use Rattle.octets.specs.Bytes.{zeros}
 use Rattle.dhcp_message.specs.Said.{says, saidOf, formOf}
 use Rattle.dhcp_message.specs.Image.{imageOf}
-use Rattle.dhcp_message.specs.Seal.{fields, sealedWith, withFields, Sealed}
+use Rattle.dhcp_message.specs.Seal.{fields, sealedWith, withFields, Rewritten}
 use Rattle.dhcp_message.specs.declared.Auth.{Auth}
 use Rattle.dhcp_message.specs.declared.Form.the-variants.{Full}
 use Rattle.dhcp_message.proofs.Seals.{seal-laws}
@@ -127,7 +127,7 @@ module _ (b : Book) (id : ℕ) (m : List ℕ) (a : Auth) (other : List ℕ) (for
   pub fields-depend : sealOf b id (sealedWith a other m) ≡ sealOf b id m
   fields-depend = end-seal b id (sealedWith a other m) (sealOf b id m) (same (sealOf b id m) (seal-end b id m))
     where
-      w : Sealed m a other
+      w : Rewritten m a other
       w = seal-laws .seals m a other form size
 
       same : (o : Outcome) → SealEnd b id m o → SealEnd b id (sealedWith a other m) o

@@ -15,8 +15,8 @@ abbrev pub numberOnB : List ℕ → ℕ
 numberOnB m = verdictNumber (checkOf bookB m)
 
 -- an option 90 in full form with protocol 1 and a wrong MAC, by counter and id
-abbrev pub wrongMac : ℕ → ℕ → List ℕ
-wrongMac counter id = messageOf (fullAuth 1 counter id someMac ++ (255 ∷ []))
+abbrev pub forgedMessage : ℕ → ℕ → List ℕ
+forgedMessage counter id = messageOf (fullAuth 1 counter id someMac ++ (255 ∷ []))
 
 pub record BenchTable : Type 0 where
   pub example-1 : Example1
@@ -24,6 +24,6 @@ pub record BenchTable : Type 0 where
   -- 3 to 7 are told of the message's form, and a check on Book B gives a number from 2 to 9 exactly where the form has it
   pub examples-3-to-7 : BenchExamples
   pub on-book-B : (m : List ℕ) (n : ℕ) → 2 ≤ n → n ≤ 9 → (numberOnB m ≡ n) ↔ (formNumber (formOf m) ≡ n)
-  pub example-8-id : numberOnB (wrongMac 11 8) ≡ 10
-  pub example-8-counter : numberOnB (wrongMac 10 7) ≡ 11
+  pub example-8-id : numberOnB (forgedMessage 11 8) ≡ 10
+  pub example-8-counter : numberOnB (forgedMessage 10 7) ≡ 11
   pub example-10 : Example10

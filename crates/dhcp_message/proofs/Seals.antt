@@ -17,7 +17,7 @@ use Rattle.dhcp_message.specs.Message.{count, optionOf, tokensBefore, of
 use Rattle.dhcp_message.specs.Said.{Said, refused, says, saidBy, saidIn, saidOf, idOf, named}
 use Rattle.dhcp_message.specs.Said.{placesOf, authOf, formSaid, formIn, formOf, formSays, formNames, FormSays}
 use Rattle.dhcp_message.specs.Image.{without, macZero, headZero, imageOf}
-use Rattle.dhcp_message.specs.Seal.{fields, sealedWith, withFields, FullForm, Sealed, SealLaws}
+use Rattle.dhcp_message.specs.Seal.{fields, sealedWith, withFields, FullForm, Rewritten, SealLaws}
 use Rattle.dhcp_message.specs.declared.scan.Places.{Places}
 use Rattle.dhcp_message.specs.declared.Auth.{Auth}
 use Rattle.dhcp_message.specs.declared.Form.{Form}
@@ -145,7 +145,7 @@ module _ {m : List ℕ} {a : Auth} (y : Fully m a) (new : List ℕ) (size : leng
       (take-built out (take 240 m) (with-body body′) (y .rest) out-is (header-size p)) w
       ∙ ap image-with (zeroed-new body new (body-long y) size)
 
-sealed : (m : List ℕ) (a : Auth) (new : List ℕ) → formOf m ≡ Full a → length new ≡ 28 → Sealed m a new
+sealed : (m : List ℕ) (a : Auth) (new : List ℕ) → formOf m ≡ Full a → length new ≡ 28 → Rewritten m a new
 sealed m a new e h =
     let y = fully m a e in
     record {

@@ -49,7 +49,7 @@ pub record FullForm (m : List ℕ) (a : Auth) : Type 0 where
   pub id-size : Bytes m → a .id < 2 ^ 32
 
 -- what holds of the message with these bytes new: the seal's are counter, id and MAC one after another
-pub record Sealed (m : List ℕ) (a : Auth) (new : List ℕ) : Type 0 where
+pub record Rewritten (m : List ℕ) (a : Auth) (new : List ℕ) : Type 0 where
   pub form : formOf (sealedWith a new m) ≡ Full (withFields a (bigAt new 0 counterSize) (bigAt new counterSize secretIdSize))
   pub said : saidOf (sealedWith a new m) ≡ says (bigAt new 0 counterSize) (bigAt new counterSize secretIdSize) (drop fieldsSize new)
   pub size : length (sealedWith a new m) ≡ length m
@@ -65,7 +65,7 @@ pub record SealLaws : Type 0 where
       → (coverSize m a out ≡ length (imageOf m)) × (coverLeft m a out ≡ imageOf m ++ drop (length (imageOf m)) out)
   pub covers-offsets : (m : List ℕ) (a : Auth) (counter id : ℕ) (out : List ℕ)
       → (coverSize m (withFields a counter id) out ≡ coverSize m a out) × (coverLeft m (withFields a counter id) out ≡ coverLeft m a out)
-  pub seals : (m : List ℕ) (a : Auth) (new : List ℕ) → formOf m ≡ Full a → length new ≡ sealSize → Sealed m a new
+  pub seals : (m : List ℕ) (a : Auth) (new : List ℕ) → formOf m ≡ Full a → length new ≡ sealSize → Rewritten m a new
   -- counter, id and MAC take the 28 bytes, and whatever MAC stands there, the image is the same
   pub seal-size : (counter id : ℕ) (mac : List ℕ) → length mac ≡ macSize → length (fields counter id ++ mac) ≡ sealSize
   pub any-mac : (m : List ℕ) (a : Auth) (counter id : ℕ) (mac other : List ℕ) → formOf m ≡ Full a → length mac ≡ macSize → length other ≡ macSize

@@ -14,5 +14,5 @@ stateOf words tail total =
     }
 
 -- the four words of a state
-unfoldable pub wordsOf : Digest → List ℕ
-wordsOf d = d .words .a ∷ d .words .b ∷ d .words .c ∷ d .words .d ∷ []
+unfoldable pub fourWords : Digest → List ℕ
+fourWords d = d .words .a ∷ d .words .b ∷ d .words .c ∷ d .words .d ∷ []

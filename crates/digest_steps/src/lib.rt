@@ -2,7 +2,7 @@
 // is lent, calls md5's entry, and takes the state apart again. The library's own interface is the crate rimemagpie.
 ghost use mathlib.Core.Path.{_≡_};
 ghost use Rattle.md5.specs.Entries.{fresh, feedOf, finishOf};
-ghost use Rattle.digest_steps.specs.State.{stateOf, wordsOf};
+ghost use Rattle.digest_steps.specs.State.{stateOf, fourWords};
 use md5::BLOCK_SIZE;
 use md5::DIGEST_SIZE;
 use md5::Digest;
@@ -28,7 +28,7 @@ fn state_of(words: &[u32; 4], tail: &[u8; BLOCK_SIZE], total: u64) -> Digest
 // A fresh state.
 #[no_mangle]
 pub extern "C" fn digest_begin(words: &mut [u32; 4], tail: &mut [u8; BLOCK_SIZE], total: &mut u64)
-    ensures words { λ _. ⌜ now (words .exit) ≡ wordsOf fresh ⌝ }
+    ensures words { λ _. ⌜ now (words .exit) ≡ fourWords fresh ⌝ }
     ensures tail { λ _. ⌜ now (tail .exit) ≡ fresh .tail ⌝ }
     ensures total { λ _. ⌜ now (total .exit) ≡ fresh .total ⌝ }
 {
@@ -54,7 +54,7 @@ pub extern "C" fn digest_feed(
         ⌝ }
     ensures words { λ _. ⌜
         (let d = stateOf (now (words .entry)) (now (tail .entry)) (now (total .entry)) in
-        now (words .exit) ≡ wordsOf (feedOf d (now (piece .entry)) .state))
+        now (words .exit) ≡ fourWords (feedOf d (now (piece .entry)) .state))
         ⌝ }
     ensures tail { λ _. ⌜
         (let d = stateOf (now (words .entry)) (now (tail .entry)) (now (total .entry)) in

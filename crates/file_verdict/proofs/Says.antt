@@ -23,7 +23,7 @@ use Rattle.verdict_line.specs.declared.Line.the-variants.{Refused, Unreadable}
 use Rattle.file_verdict.specs.declared.Loaded.the-variants.{Stopped, Rows}
 use Rattle.file_verdict.specs.Files.{fileMost, readable}
 use Rattle.file_verdict.specs.Files.{loadedOf, bookLoaded, messageLine, verdictLine, emptyBook, lineAfter, lineFor}
-use Rattle.file_verdict.specs.Laws.{ContentSays, CardOf, LineSays}
+use Rattle.file_verdict.specs.Laws.{ContentSays, IsCardOf, LineSays}
 use Rattle.file_verdict.proofs.Contents.{no-file, held, not-held, readable-none, readable-fits, readable-too-large}
 use Rattle.file_verdict.proofs.Reading.{read-failed, read-end, read-more, read-too-much}
 use Rattle.file_verdict.proofs.Stages.{card-none, card-read, book-read, message-none, message-checked}
@@ -59,7 +59,7 @@ empty-sized =
     let s = length-replicate {A = ℕ} (rowsMost * slotSize) 0 in
     record { room = omega arith; lengths-agree = refl; store-agrees = omega arith; received-agree = refl; sent-agree = refl }
 
-module _ (card : List ℕ) (rows : List Row) (c : CardOf card rows) where
+module _ (card : List ℕ) (rows : List Row) (c : IsCardOf card rows) where
   card-rows : readCard card ≡ some rows
   card-rows = card-says card (c .bytes) rows .1 (c .in-order, c .is-card)
 

@@ -30,7 +30,7 @@ pub record ContentSays : Type 0 where
   pub not-held : (room : List ℕ) (n : ℕ) → length room < n → fileIn room (Size n) ≡ none
 
 -- the bytes are the card of these rows
-pub record CardOf (card : List ℕ) (rows : List Row) : Type 0 where
+pub record IsCardOf (card : List ℕ) (rows : List Row) : Type 0 where
   pub bytes : Bytes card
   pub in-order : InOrder rows
   pub is-card : card ≡ cardOf rows
@@ -42,11 +42,11 @@ pub record LineSays : Type 0 where
   pub card-malformed : (card : List ℕ) → length card ≤ fileMost → Bytes card → ((rows : List Row) → InOrder rows → card ≡ cardOf rows → ⊥)
       → (message : Option (List ℕ)) → lineFor (some card) message ≡ Refused MalformedCard
   -- the card is good, and the message is missing or above the limit
-  pub message-missing : (card : List ℕ) (rows : List Row) → CardOf card rows → lineFor (some card) none ≡ Unreadable
-  pub message-too-large : (card : List ℕ) (rows : List Row) → CardOf card rows → (message : List ℕ) → fileMost < length message
+  pub message-missing : (card : List ℕ) (rows : List Row) → IsCardOf card rows → lineFor (some card) none ≡ Unreadable
+  pub message-too-large : (card : List ℕ) (rows : List Row) → IsCardOf card rows → (message : List ℕ) → fileMost < length message
       → lineFor (some card) (some message) ≡ Unreadable
   -- both are good files: what the check of the message by those rows answers
-  pub accepted : (card : List ℕ) (rows : List Row) → CardOf card rows → (message : List ℕ) → length message ≤ fileMost
+  pub accepted : (card : List ℕ) (rows : List Row) → IsCardOf card rows → (message : List ℕ) → length message ≤ fileMost
       → (row counter : ℕ) → checkOf (loaded emptyBook rows) message ≡ CheckAccepted row counter → lineFor (some card) (some message) ≡ Accepted row counter
-  pub refused : (card : List ℕ) (rows : List Row) → CardOf card rows → (message : List ℕ) → length message ≤ fileMost
+  pub refused : (card : List ℕ) (rows : List Row) → IsCardOf card rows → (message : List ℕ) → length message ≤ fileMost
       → (r : Refusal) → checkOf (loaded emptyBook rows) message ≡ CheckRefused r → lineFor (some card) (some message) ≡ Refused r

@@ -8,7 +8,7 @@ use Rattle.delayed_auth.specs.Seal.{sealOf, outcomeNumber}
 use Rattle.card_laws.specs.Examples.{bookB, cardB}
 use Rattle.book_card.specs.Reading.{readOf, readNumber}
 use Rattle.book_card.specs.Writing.{writeOf, writeNumber}
-use Rattle.demands.specs.Bench.{numberOnB, wrongMac}
+use Rattle.demands.specs.Bench.{numberOnB, forgedMessage}
 
 -- no room for a row, and none in use
 abbrev pub noRoom : Book
@@ -20,10 +20,10 @@ spentB = bookOf (bookB .ids) (bookB .lengths) (bookB .store) (bookB .received) (
 
 pub record MoreNumbers : Type 0 where
   -- a row in use that there is no room for
-  pub number-1 : verdictNumber (checkOf (bookOf [] [] [] [] [] 1) (wrongMac 11 7)) ≡ 1
+  pub number-1 : verdictNumber (checkOf (bookOf [] [] [] [] [] 1) (forgedMessage 11 7)) ≡ 1
   -- the right secret and a new counter, with some MAC
-  pub number-12 : numberOnB (wrongMac 11 7) ≡ 12
-  pub number-13 : outcomeNumber (sealOf spentB 7 (wrongMac 11 7)) ≡ 13
+  pub number-12 : numberOnB (forgedMessage 11 7) ≡ 12
+  pub number-13 : outcomeNumber (sealOf spentB 7 (forgedMessage 11 7)) ≡ 13
   -- a byte less than the card of B has
   pub number-16 : writeNumber (writeOf bookB 33) ≡ 16
   pub number-17 : readNumber (readOf noRoom cardB) ≡ 17

@@ -2,7 +2,7 @@
 use mathlib.Core.Path.{ap}
 use borrow.Author.Needs.{needs}
 use Rattle.md5.specs.declared.Digest.{Digest}
-use Rattle.digest_steps.specs.State.{wordsOf}
+use Rattle.digest_steps.specs.State.{fourWords}
 use Rattle.digest_steps.proofs.digest_begin.Statement.{statement}
 use Rattle.digest_steps.proofs.digest_begin.Tie as tie
 
@@ -10,9 +10,9 @@ begin-requires : tie.Need-begin-requires
 begin-requires c κs = search needs
 
 returns : tie.Need-returns
-unfolding wordsOf
+unfolding fourWords
 returns c = let e = c .before .before .before .begin .ensures in
-    (ap wordsOf e, (ap (λ (d : Digest). d .tail) e, ap (λ (d : Digest). d .total) e))
+    (ap fourWords e, (ap (λ (d : Digest). d .tail) e, ap (λ (d : Digest). d .total) e))
 
 pub digest-begin-spec : {M : Type 1} → statement M
 digest-begin-spec = tie.close (tie.spec begin-requires returns)
