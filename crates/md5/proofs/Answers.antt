@@ -49,8 +49,8 @@ unfolding md5Of
 md5-refused s h = rw (lt-leb (length s) digestMost h)
 
 pub md5-size : (s : List ℕ) → length (md5 s) ≡ digestSize
-unfolding md5 output le
-md5-size s = refl
+unfolding md5 output
+md5-size s = simp (length-append, le-length) refl
 
 pub padded-long : (s : List ℕ) → length (padded s) ≡ blockSize * (1 + (length s + 8) / blockSize)
 unfolding padded padding

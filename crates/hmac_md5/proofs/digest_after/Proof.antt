@@ -11,21 +11,6 @@ use Rattle.hmac_md5.proofs.digest_after.Tie as tie
 block-length : (c : tie.Start) → length (c .args .t1) ≡ blockSize
 block-length c = search needs
 
-begin-requires : tie.Need-begin-requires
-begin-requires c κs = search needs
-
-slice-aggregate-feed : tie.Need-slice-aggregate-feed
-slice-aggregate-feed c = search needs
-
-feed-requires : tie.Need-feed-requires
-feed-requires c κs = search needs
-
-feed-requires-2 : tie.Need-feed-requires-2
-feed-requires-2 c κs = search needs
-
-finish-requires : tie.Need-finish-requires
-finish-requires c κs = search needs
-
 returns : tie.Need-returns
 returns c = let second = c .before .before .before in
     let first = second .before .before in
@@ -38,9 +23,9 @@ pub digest-after-spec : {M : Type 1} → statement M
 digest-after-spec =
     tie.close
     (tie.spec
-    begin-requires
-    slice-aggregate-feed
-    feed-requires
-    feed-requires-2
-    finish-requires
+    (λ c κs. search needs)
+    (λ c. search needs)
+    (λ c κs. search needs)
+    (λ c κs. search needs)
+    (λ c κs. search needs)
     returns)

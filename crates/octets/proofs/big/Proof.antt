@@ -18,12 +18,6 @@ abbrev μ-loop : tie.MeasureT-loop
 loop-holds : tie.Need-loop-holds Inv-loop μ-loop
 loop-holds c = reading-high-start _ _ _
 
-add-x : tie.Need-add-x Inv-loop μ-loop
-add-x c = omega arith
-
-shared-slice-read-x : tie.Need-shared-slice-read-x Inv-loop μ-loop
-shared-slice-read-x c = omega arith
-
 cast-x : tie.Need-cast-x Inv-loop μ-loop
 cast-x c = omega (arith, c .shared-slice-known .given (c .before .before .before .args .at + c .before .before .loop .i))
 
@@ -42,12 +36,6 @@ mul-x c = omega (arith, fits c)
 add-x-2 : tie.Need-add-x-2 Inv-loop μ-loop
 add-x-2 c = omega (arith, fits c)
 
-add-i : tie.Need-add-i Inv-loop μ-loop
-add-i c = omega arith
-
-loop-less : tie.Need-loop-less Inv-loop μ-loop
-loop-less c = omega arith
-
 loop-again : tie.Need-loop-again Inv-loop μ-loop
 loop-again c = reading-high-turn _ _ _ _ _ (c .before .before .loop .inv) (search needs) (byte c)
 
@@ -61,12 +49,12 @@ big-spec =
     Inv-loop
     μ-loop
     loop-holds
-    add-x
-    shared-slice-read-x
+    (λ c. omega arith)
+    (λ c. omega arith)
     cast-x
     mul-x
     add-x-2
-    add-i
-    loop-less
+    (λ c. omega arith)
+    (λ c. omega arith)
     loop-again
     returns)

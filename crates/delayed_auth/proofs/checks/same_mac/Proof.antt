@@ -27,15 +27,6 @@ loop-holds c = (omega arith, refl)
 shared-slice-read-same : tie.Need-shared-slice-read-same Inv-loop μ-loop
 shared-slice-read-same c = omega (arith, c .before .before .before .pre)
 
-array-read-same : tie.Need-array-read-same Inv-loop μ-loop
-array-read-same c = omega arith
-
-add-i : tie.Need-add-i Inv-loop μ-loop
-add-i c = omega arith
-
-loop-less : tie.Need-loop-less Inv-loop μ-loop
-loop-less c = omega arith
-
 loop-again : tie.Need-loop-again Inv-loop μ-loop
 loop-again c =
     let s = c .before .before .before in
@@ -58,8 +49,8 @@ same-mac-spec =
     μ-loop
     loop-holds
     shared-slice-read-same
-    array-read-same
-    add-i
-    loop-less
+    (λ c. omega arith)
+    (λ c. omega arith)
+    (λ c. omega arith)
     loop-again
     returns)

@@ -11,44 +11,14 @@ use borrow.Author.Needs.{needs}
 use Rattle.md5.proofs.Digest.finish.Statement.{statement}
 use Rattle.md5.proofs.Digest.finish.Tie as tie
 
-number-requires : tie.Need-number-requires
-number-requires c κs = search needs
-
 returns : tie.Need-returns
 returns c = ap {B = Finished} (λ (n : ℕ). record { number = n; digest = noDigest }) (c .number .ensures) ∙ sym (finish-refused _ (omega arith))
-
-sub-zeros : tie.Need-sub-zeros
-sub-zeros c = search needs
-
-array-write-pad : tie.Need-array-write-pad
-array-write-pad c = search needs
-
-slice-aggregate-put-little : tie.Need-slice-aggregate-put-little
-slice-aggregate-put-little c = search needs
-
-add-put-little : tie.Need-add-put-little
-add-put-little c = search needs
-
-mul-put-little : tie.Need-mul-put-little
-mul-put-little c = search needs
-
-put-little-requires : tie.Need-put-little-requires
-put-little-requires c κs = search needs
-
-add-pad : tie.Need-add-pad
-add-pad c = search needs
-
-array-share-prefix-pad : tie.Need-array-share-prefix-pad
-array-share-prefix-pad c = search needs
 
 slice-aggregate-absorbed : tie.Need-slice-aggregate-absorbed
 slice-aggregate-absorbed c = sym (length-take-le _ _ (omega arith))
 
 absorbed-requires : tie.Need-absorbed-requires
 absorbed-requires c κs = simp length-take (omega arith)
-
-bytes-of-requires : tie.Need-bytes-of-requires
-bytes-of-requires c κs = search needs
 
 returns-2 : tie.Need-returns-2
 returns-2 c = let d = c .before .before .before .before .before .before .before .args .self in
@@ -58,17 +28,17 @@ pub finish-spec : {M : Type 1} → statement M
 finish-spec =
     tie.close
     (tie.spec
-    number-requires
+    (λ c κs. search needs)
     returns
-    sub-zeros
-    array-write-pad
-    slice-aggregate-put-little
-    add-put-little
-    mul-put-little
-    put-little-requires
-    add-pad
-    array-share-prefix-pad
+    (λ c. search needs)
+    (λ c. search needs)
+    (λ c. search needs)
+    (λ c. search needs)
+    (λ c. search needs)
+    (λ c κs. search needs)
+    (λ c. search needs)
+    (λ c. search needs)
     slice-aggregate-absorbed
     absorbed-requires
-    bytes-of-requires
+    (λ c κs. search needs)
     returns-2)

@@ -13,29 +13,8 @@ use Rattle.md5.proofs.pieces.absorbed.Tie as tie
 tail-long : (c : tie.Start) → length (c .args .d .tail) ≡ blockSize
 tail-long c = search needs
 
-add-total : tie.Need-add-total
-add-total c = search needs
-
-sub-gap : tie.Need-sub-gap
-sub-gap c = search needs
-
-slice-aggregate-copy : tie.Need-slice-aggregate-copy
-slice-aggregate-copy c = search needs
-
 copy-requires : tie.Need-copy-requires
 copy-requires c κs = let l = tail-long (c .before .before .before .before .before .before .before) in omega arith
-
-slice-aggregate-clear : tie.Need-slice-aggregate-clear
-slice-aggregate-clear c = search needs
-
-add-clear : tie.Need-add-clear
-add-clear c = search needs
-
-sub-clear : tie.Need-sub-clear
-sub-clear c = search needs
-
-clear-requires : tie.Need-clear-requires
-clear-requires c κs = search needs
 
 returns : tie.Need-returns
 returns c = let b = c .before .before .before .before .before .before .before .before .before .before .before .before in
@@ -47,34 +26,10 @@ returns c = let b = c .before .before .before .before .before .before .before .b
 slice-aggregate-copy-2 : tie.Need-slice-aggregate-copy-2
 slice-aggregate-copy-2 c = sym (length-take-le _ _ (omega arith))
 
-slice-aggregate-copy-3 : tie.Need-slice-aggregate-copy-3
-slice-aggregate-copy-3 c = search needs
-
 copy-requires-2 : tie.Need-copy-requires-2
 copy-requires-2 c κs = let b = c .before .before .before .before .before .before .before .before in
     let l = tail-long b in
     omega (arith, length-take-le (blockSize - b .args .d .total % blockSize) (b .args .piece .now) (omega arith))
-
-slice-aggregate-words-of : tie.Need-slice-aggregate-words-of
-slice-aggregate-words-of c = search needs
-
-words-of-requires : tie.Need-words-of-requires
-words-of-requires c κs = search needs
-
-block-requires : tie.Need-block-requires
-block-requires c κs = search needs
-
-sub-settled : tie.Need-sub-settled
-sub-settled c = search needs
-
-part-settled-start : tie.Need-part-settled-start
-part-settled-start c = search needs
-
-part-settled-end : tie.Need-part-settled-end
-part-settled-end c = search needs
-
-settled-requires : tie.Need-settled-requires
-settled-requires c κs = search needs
 
 returns-2 : tie.Need-returns-2
 returns-2 c = let b = c .before .before .before .before .before .before .before .before .before .before .before .before .before .before .before in
@@ -93,23 +48,23 @@ pub absorbed-spec : {M : Type 1} → statement M
 absorbed-spec =
     tie.close
     (tie.spec
-    add-total
-    sub-gap
-    slice-aggregate-copy
+    (λ c. search needs)
+    (λ c. search needs)
+    (λ c. search needs)
     copy-requires
-    slice-aggregate-clear
-    add-clear
-    sub-clear
-    clear-requires
+    (λ c. search needs)
+    (λ c. search needs)
+    (λ c. search needs)
+    (λ c κs. search needs)
     returns
     slice-aggregate-copy-2
-    slice-aggregate-copy-3
+    (λ c. search needs)
     copy-requires-2
-    slice-aggregate-words-of
-    words-of-requires
-    block-requires
-    sub-settled
-    part-settled-start
-    part-settled-end
-    settled-requires
+    (λ c. search needs)
+    (λ c κs. search needs)
+    (λ c κs. search needs)
+    (λ c. search needs)
+    (λ c. search needs)
+    (λ c. search needs)
+    (λ c κs. search needs)
     returns-2)
