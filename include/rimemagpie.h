@@ -46,24 +46,24 @@ extern "C" {
 
 /* The numbers given back, by the names of crates/refusal. */
 enum rimemagpie_number {
-    RIMEMAGPIE_DONE = 0,                    /* accepted or done */
-    RIMEMAGPIE_UNSOUND_BOOK = 1,            /* the book is not sound (reading a card: the lent sizes) */
-    RIMEMAGPIE_MESSAGE_SIZE = 2,            /* the message is below 241 or above 1,472 bytes */
-    RIMEMAGPIE_WRONG_COOKIE = 3,            /* the cookie differs */
-    RIMEMAGPIE_BROKEN_OPTIONS = 4,          /* an option passes the message's end, or there is no End */
-    RIMEMAGPIE_NO_AUTHENTICATION = 5,       /* no option 90 */
-    RIMEMAGPIE_REPEATED_AUTHENTICATION = 6, /* more than one option 90 */
-    RIMEMAGPIE_RELAY_INFORMATION = 7,       /* more than one option 82, or one that isn't last */
-    RIMEMAGPIE_OTHER_AUTHENTICATION = 8,    /* option 90's length is neither 11 nor 31, or its body doesn't begin 1, 1, 0 */
-    RIMEMAGPIE_REQUEST_FORM = 9,            /* option 90 is a request (length 11): it has no id and no MAC */
-    RIMEMAGPIE_UNKNOWN_SECRET = 10,         /* the secret id has no row */
-    RIMEMAGPIE_REPLAY = 11,                 /* the counter is not above the row's received one */
-    RIMEMAGPIE_WRONG_MAC = 12,              /* the MAC differs */
-    RIMEMAGPIE_COUNTER_SPENT = 13,          /* the sent counter is 2^64 - 1 */
-    RIMEMAGPIE_TOO_LONG = 14,               /* a digest's total would pass 65,535 bytes, or an HMAC key 64 */
-    RIMEMAGPIE_MALFORMED_CARD = 15,         /* the card is malformed */
-    RIMEMAGPIE_NO_ROOM_FOR_CARD = 16,       /* the room for the card is too small */
-    RIMEMAGPIE_NO_ROOM_FOR_ROWS = 17        /* the card has more rows than the lent room */
+    RIMEMAGPIE_DONE = 0,                       /* accepted or done */
+    RIMEMAGPIE_UNSOUND_BOOK = 1,               /* the book is not sound (reading a card: the lent sizes) */
+    RIMEMAGPIE_MESSAGE_SIZE = 2,               /* the message is below 241 or above 1,472 bytes */
+    RIMEMAGPIE_WRONG_COOKIE = 3,               /* the cookie differs */
+    RIMEMAGPIE_BROKEN_OPTIONS = 4,             /* an option passes the message's end, or there is no End */
+    RIMEMAGPIE_NO_AUTHENTICATION = 5,          /* no option 90 */
+    RIMEMAGPIE_REPEATED_AUTHENTICATION = 6,    /* more than one option 90 */
+    RIMEMAGPIE_REPEATED_RELAY_INFORMATION = 7, /* more than one option 82 */
+    RIMEMAGPIE_OTHER_AUTHENTICATION = 8,       /* option 90's length is neither 11 nor 31, or its body doesn't begin 1, 1, 0 */
+    RIMEMAGPIE_REQUEST_FORM = 9,               /* option 90 is a request (length 11): it has no id and no MAC */
+    RIMEMAGPIE_UNKNOWN_SECRET = 10,            /* the secret id has no row */
+    RIMEMAGPIE_REPLAY = 11,                    /* the counter is not above the row's received one */
+    RIMEMAGPIE_WRONG_MAC = 12,                 /* the MAC differs */
+    RIMEMAGPIE_COUNTER_SPENT = 13,             /* the sent counter is 2^64 - 1 */
+    RIMEMAGPIE_TOO_LONG = 14,                  /* a digest's total would pass 65,535 bytes, or an HMAC key 64 */
+    RIMEMAGPIE_MALFORMED_CARD = 15,            /* the card is malformed */
+    RIMEMAGPIE_NO_ROOM_FOR_CARD = 16,          /* the room for the card is too small */
+    RIMEMAGPIE_NO_ROOM_FOR_ROWS = 17           /* the card has more rows than the lent room */
 };
 
 /*

@@ -16,7 +16,7 @@ use Rattle.refusal.specs.declared.Refusal.{Refusal}
 use Rattle.refusal.proofs.Names.{numbers-tell}
 use Rattle.refusal.proofs.Lowest.{nothing-more, Right, lowest}
 use Rattle.refusal.specs.declared.Refusal.the-variants.{MessageSize, WrongCookie, BrokenOptions, NoAuthentication, RepeatedAuthentication}
-use Rattle.refusal.specs.declared.Refusal.the-variants.{RelayInformation, OtherAuthentication, RequestForm}
+use Rattle.refusal.specs.declared.Refusal.the-variants.{RepeatedRelayInformation, OtherAuthentication, RequestForm}
 use Rattle.dhcp_message.specs.Layout.{magicCookie, delayed}
 use Rattle.octets.specs.Bytes.{Bytes, starts}
 use Rattle.dhcp_message.specs.Options.{Token, opt, Parsed, broken, parsed, decode, Reads}
@@ -104,7 +104,7 @@ module _ (m : List ℕ) (bytes : Bytes m) where
       → (x y z l : Bool) → eqb (count 90 ts) 0 ≡ x → ltb 1 (count 90 ts) ≡ y → ltb 1 (count 82 ts) ≡ z → isLast 82 ts ≡ l
       → Given m
       (cond x (stopped NoAuthentication)
-      (cond y (stopped RepeatedAuthentication) (cond z (stopped RelayInformation) (cond l (passed ts rest) (stopped RelayInformation)))))
+      (cond y (stopped RepeatedAuthentication) (cond z (stopped RepeatedRelayInformation) (cond l (passed ts rest) (stopped RepeatedRelayInformation)))))
   given-tokens h ts rest e true y z l hx hy hz hl = (no-authentication (readable m bytes ts rest e (eqb-true (count 90 ts) 0 hx)), h, omega arith)
   given-tokens h ts rest e false y z l hx hy hz hl = by y z l hy hz hl
     where
@@ -115,14 +115,14 @@ module _ (m : List ℕ) (bytes : Bytes m) where
       no-6 k = nothing-more (Applies m) RepeatedAuthentication no-5 (λ a. elim a [ repeated-authentication w ↦ omega (arith, read-as m bytes ts rest e w) ])
 
       by : (y z l : Bool) → ltb 1 (count 90 ts) ≡ y → ltb 1 (count 82 ts) ≡ z → isLast 82 ts ≡ l
-          → Given m (cond y (stopped RepeatedAuthentication) (cond z (stopped RelayInformation) (cond l (passed ts rest) (stopped RelayInformation))))
+          → Given m (cond y (stopped RepeatedAuthentication) (cond z (stopped RepeatedRelayInformation) (cond l (passed ts rest) (stopped RepeatedRelayInformation))))
       by true z l hy hz hl = (repeated-authentication (readable m bytes ts rest e (ltb-true 1 (count 90 ts) hy)), no-5, omega arith)
       by false true l hy hz hl =
           (relay-wrong (readable m bytes ts rest e (inl (ltb-true 1 (count 82 ts) hz))), no-6 (ltb-false 1 (count 90 ts) hy), omega arith)
       by false false false hy hz hl =
           (relay-wrong (readable m bytes ts rest e (inr (not-last ts hl))), no-6 (ltb-false 1 (count 90 ts) hy), omega arith)
       by false false true hy hz hl =
-          nothing-more (Applies m) RelayInformation (no-6 (ltb-false 1 (count 90 ts) hy))
+          nothing-more (Applies m) RepeatedRelayInformation (no-6 (ltb-false 1 (count 90 ts) hy))
           (λ a. elim a [ relay-wrong w ↦ relay-right ts (ltb-false 1 (count 82 ts) hz) hl (read-as m bytes ts rest e w) ])
 
   given-parsed : Below m 4 → (p : Parsed) → decode (drop 240 m) ≡ p → Given m (checkedParsed p)

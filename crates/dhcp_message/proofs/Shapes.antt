@@ -10,7 +10,7 @@ use lib.ListN.{length, drop}
 use lib.Dec.{ltb, eqb}
 use borrow.Author.Tests.{ne-eqb, eq-eqb, lt-ltb, le-ltb, eqb-true, eqb-false, ltb-true, ltb-false}
 use Rattle.refusal.specs.declared.Refusal.the-variants.{MessageSize, WrongCookie, BrokenOptions}
-use Rattle.refusal.specs.declared.Refusal.the-variants.{NoAuthentication, RepeatedAuthentication, RelayInformation}
+use Rattle.refusal.specs.declared.Refusal.the-variants.{NoAuthentication, RepeatedAuthentication, RepeatedRelayInformation}
 use Rattle.octets.specs.Bytes.{starts}
 use Rattle.dhcp_message.specs.Layout.{magicCookie}
 use Rattle.dhcp_message.specs.Options.{Token, Parsed, broken, parsed, encode, decode}
@@ -47,7 +47,7 @@ module _ (f : Tally) (e : ℕ) where
       found-plain h = rw (ne-eqb _ _ h₀, le-ltb _ _ h₁, eq-eqb _ _ h)
 
       module _ (h₂ : f .n82 ≢ 0) where
-        pub found-7 : 1 < f .n82 → SRefused RelayInformation ≡ shapeFound f e
+        pub found-7 : 1 < f .n82 → SRefused RepeatedRelayInformation ≡ shapeFound f e
         unfolding shapeFound
         found-7 h = rw (ne-eqb _ _ h₀, le-ltb _ _ h₁, ne-eqb _ _ h₂, lt-ltb _ _ h)
 
@@ -55,7 +55,7 @@ module _ (f : Tally) (e : ℕ) where
         unfolding shapeFound
         found-last h l = rw (ne-eqb _ _ h₀, le-ltb _ _ h₁, ne-eqb _ _ h₂, le-ltb _ _ h, eq-eqb _ _ l)
 
-        pub found-late : f .n82 ≤ 1 → f .last ≢ 82 → SRefused RelayInformation ≡ shapeFound f e
+        pub found-late : f .n82 ≤ 1 → f .last ≢ 82 → SRefused RepeatedRelayInformation ≡ shapeFound f e
         unfolding shapeFound
         found-late h l = rw (ne-eqb _ _ h₀, le-ltb _ _ h₁, ne-eqb _ _ h₂, le-ltb _ _ h, ne-eqb _ _ l)
 
@@ -89,7 +89,7 @@ module _ (ts : List Token) (rest : List ℕ) where
       cond x (SRefused NoAuthentication)
       (cond y (SRefused RepeatedAuthentication)
       (cond z (SPassed places₀)
-      (cond w (SRefused RelayInformation) (cond (eqb (lastCode 0 ts) 82) (SPassed places₁) (SRefused RelayInformation)))))
+      (cond w (SRefused RepeatedRelayInformation) (cond (eqb (lastCode 0 ts) 82) (SPassed places₁) (SRefused RepeatedRelayInformation)))))
 
   found-by : (x y z w l : Bool) → eqb (count 90 ts) 0 ≡ x → ltb 1 (count 90 ts) ≡ y → eqb (count 82 ts) 0 ≡ z → ltb 1 (count 82 ts) ≡ w
       → isLast 82 ts ≡ l → byPass x y z w ≡ shapeIn (byTests ts rest x y w l)
@@ -108,10 +108,10 @@ module _ (ts : List Token) (rest : List ℕ) where
   found-by false false false false l hx hy hz hw hl =
       let a = once (count 90 ts) (eqb-false (count 90 ts) 0 hx) (ltb-false 1 (count 90 ts) hy) in
       let r = once (count 82 ts) (eqb-false (count 82 ts) 0 hz) (ltb-false 1 (count 82 ts) hw) in
-      ap (λ (t : Bool). cond t (SPassed places₁) (SRefused RelayInformation)) (code-once 82 ts r 0 ∙ hl) ∙ by l (same-places₁ a r)
+      ap (λ (t : Bool). cond t (SPassed places₁) (SRefused RepeatedRelayInformation)) (code-once 82 ts r 0 ∙ hl) ∙ by l (same-places₁ a r)
     where
       by : (l : Bool) → places₁ ≡ placesOf ts
-          → cond l (SPassed places₁) (SRefused RelayInformation) ≡ shapeIn (cond l (passed ts rest) (stopped RelayInformation))
+          → cond l (SPassed places₁) (SRefused RepeatedRelayInformation) ≡ shapeIn (cond l (passed ts rest) (stopped RepeatedRelayInformation))
       by true e = ap SPassed e
       by false e = refl
 

@@ -3,10 +3,10 @@
 -- adds option 82 and takes it out again, so sender and receiver don't see the same ones: the MAC has to leave them out (RFC 3118, section 3).
 -- Then what `cover` writes for any offsets and any room.
 use Prim.Native.Nat.{ℕ, _+_, _-_}
-use mathlib.Core.Bool.{Bool, cond, _&&_}
+use mathlib.Core.Bool.{Bool, cond, _&&_, _||_}
 use mathlib.Core.List.{List, [], _∷_, _++_}
 use lib.ListN.{length, take, drop}
-use lib.Dec.{leb, eqb}
+use lib.Dec.{leb, ltb, eqb}
 use Rattle.dhcp_message.specs.Layout.{headerSize, hopsAt, hopsSize, giaddrAt, giaddrSize, endCode, relayCode, authCode, optionHead}
 use Rattle.dhcp_message.specs.Layout.{macAt, macSize, fullSize}
 use Rattle.octets.specs.Bytes.{written, zeros}
@@ -44,16 +44,21 @@ imageIn header (parsed ts rest) = headZero header ++ (encode (macZero (without r
 unfoldable pub imageOf : List ℕ → List ℕ
 imageOf m = imageIn (take headerSize m) (decode (drop headerSize m))
 
--- whether offsets lie in a message of a length, and what is left without the stretch has place for the fields and fits a room
+-- whether the stretch of option 82 lies in a message of a length, what is left without it fits a room, and option 90 lies in the message, wholly
+-- before the stretch or behind its end
 unfoldable pub coverFits : ℕ → ℕ → Auth → Bool
 coverFits size room a =
-    leb (a .cut) size
-    && (leb (a .gap) (size - a .cut)
-    && (leb (size - a .gap) room && (leb fullSize (size - a .gap) && leb (a .at) (size - a .gap - fullSize))))
+    leb (a .cut + a .gap) size
+    && (leb (size - a .gap) room
+    && (leb (a .at + fullSize) size && (leb (a .at + fullSize) (a .cut) || leb (a .cut + a .gap) (a .at))))
+
+-- where option 90 stands without the stretch: as many bytes earlier as the stretch has, where that is before it
+unfoldable pub imageAt : Auth → ℕ
+imageAt a = cond (ltb (a .at) (a .cut)) (a .at) (a .at - a .gap)
 
 -- the message without the stretch, hops, giaddr and the 16 bytes of the MAC zero
 unfoldable pub coverBytes : List ℕ → Auth → List ℕ
-coverBytes m a = written (a .at + macAt) (zeros macSize) (headZero (take (a .cut) m ++ drop (a .cut + a .gap) m))
+coverBytes m a = written (imageAt a + macAt) (zeros macSize) (headZero (take (a .cut) m ++ drop (a .cut + a .gap) m))
 
 -- what `cover` returns: how many bytes it wrote, 0 where something doesn't fit
 unfoldable pub coverSize : List ℕ → Auth → List ℕ → ℕ

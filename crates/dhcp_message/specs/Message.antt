@@ -1,12 +1,12 @@
 -- What a message is (docs/RULES.md, 'The message'): its header, its option tokens and the bytes after End; and checks 2 to 7 on them.
 -- Option 52 is an option like any other, sname and file are not read, and options of one code are not joined.
 use Prim.Native.Nat.{ℕ, _+_}
-use mathlib.Core.Bool.{Bool, true, false, cond}
+use mathlib.Core.Bool.{cond}
 use mathlib.Core.List.{List, [], _∷_}
 use lib.ListN.{length, drop}
 use lib.Dec.{ltb, eqb}
 use Rattle.refusal.specs.declared.Refusal.{Refusal}
-use Rattle.refusal.specs.declared.Refusal.the-variants.{MessageSize, WrongCookie, BrokenOptions, NoAuthentication, RepeatedAuthentication, RelayInformation}
+use Rattle.refusal.specs.declared.Refusal.the-variants.{MessageSize, WrongCookie, BrokenOptions, NoAuthentication, RepeatedAuthentication, RepeatedRelayInformation}
 use Rattle.dhcp_message.specs.Layout.{messageLeast, messageMost, headerSize, cookieAt, magicCookie, relayCode, authCode}
 use Rattle.octets.specs.Bytes.{starts}
 use Rattle.dhcp_message.specs.Options.{Token, pad, opt, Parsed, broken, parsed, encode, decode}
@@ -33,17 +33,6 @@ tokensBefore c (opt e body ∷ ts) = cond (eqb e c) [] (opt e body ∷ tokensBef
 abbrev pub offsetOf : ℕ → List Token → ℕ
 offsetOf c ts = headerSize + length (encode (tokensBefore c ts))
 
-abbrev pub onlyPads : List Token → Bool
-onlyPads [] = true
-onlyPads (pad ∷ ts) = onlyPads ts
-onlyPads (opt e body ∷ ts) = false
-
--- whether only pads stand between the first option of code c and End
-abbrev pub isLast : ℕ → List Token → Bool
-isLast c [] = true
-isLast c (pad ∷ ts) = isLast c ts
-isLast c (opt e body ∷ ts) = cond (eqb e c) (onlyPads ts) (isLast c ts)
-
 -- what checks 2 to 7 give: the first that fails, or the tokens and the rest
 pub data Checked : Type 0 where
   stopped : Refusal → Checked
@@ -54,8 +43,7 @@ unfoldable pub checkedTokens : List Token → List ℕ → Checked
 checkedTokens ts rest =
     cond (eqb (count authCode ts) 0) (stopped NoAuthentication)
     (cond (ltb 1 (count authCode ts)) (stopped RepeatedAuthentication)
-    (cond (ltb 1 (count relayCode ts)) (stopped RelayInformation)
-    (cond (isLast relayCode ts) (passed ts rest) (stopped RelayInformation))))
+    (cond (ltb 1 (count relayCode ts)) (stopped RepeatedRelayInformation) (passed ts rest)))
 
 -- 4
 abbrev pub checkedParsed : Parsed → Checked

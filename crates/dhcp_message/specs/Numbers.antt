@@ -3,26 +3,21 @@
 use Prim.Native.Nat.{ℕ, _<_}
 use mathlib.Core.Path.{_≡_}
 use mathlib.Core.Logic.{_≢_, _⊎_, _↔_}
-use mathlib.Core.List.{List, [], _∷_, _++_}
+use mathlib.Core.List.{List, _∷_, _++_}
 use lib.ListN.{length, take, drop}
 use Rattle.refusal.specs.Number.{numberOf}
 use Rattle.refusal.specs.Lowest.{NothingBelow, Lowest}
 use Rattle.refusal.specs.declared.Refusal.{Refusal}
 use Rattle.refusal.specs.declared.Refusal.the-variants.{MessageSize, WrongCookie, BrokenOptions, NoAuthentication, RepeatedAuthentication}
-use Rattle.refusal.specs.declared.Refusal.the-variants.{RelayInformation, OtherAuthentication, RequestForm}
+use Rattle.refusal.specs.declared.Refusal.the-variants.{RepeatedRelayInformation, OtherAuthentication, RequestForm}
 use Rattle.dhcp_message.specs.Layout.{messageLeast, messageMost, headerSize, cookieAt, magicCookie, relayCode, authCode}
 use Rattle.dhcp_message.specs.Layout.{fullLength, requestLength, delayed}
 use Rattle.octets.specs.Bytes.{Bytes}
-use Rattle.dhcp_message.specs.Options.{Token, pad, opt, Reads}
+use Rattle.dhcp_message.specs.Options.{Token, opt, Reads}
 use Rattle.dhcp_message.specs.Message.{count, Passes27}
 use Rattle.dhcp_message.specs.Said.{formOf, formNumber}
 use Rattle.dhcp_message.specs.declared.Auth.{Auth}
 use Rattle.dhcp_message.specs.declared.Form.the-variants.{Refused, Full}
-
-abbrev pub OnlyPads : List Token → Type 0
-OnlyPads [] = Unit {0}
-OnlyPads (pad ∷ ts) = OnlyPads ts
-OnlyPads (opt e body ∷ ts) = ⊥
 
 -- the options can be read, and what they read as has a property
 pub record WhereRead (P : List Token → Type 0) (m : List ℕ) : Type 0 where
@@ -31,29 +26,25 @@ pub record WhereRead (P : List Token → Type 0) (m : List ℕ) : Type 0 where
   pub reads : Reads (drop headerSize m) tokens rest
   pub holds : P tokens
 
--- an option of code c: its body has a property, and so have the tokens behind it
-pub record Has (c : ℕ) (P : List ℕ → List Token → Type 0) (tokens : List Token) : Type 0 where
+-- an option of code c whose body has a property
+pub record Has (c : ℕ) (P : List ℕ → Type 0) (tokens : List Token) : Type 0 where
   pub front : List Token
   pub body : List ℕ
   pub back : List Token
   pub splits : tokens ≡ front ++ (opt c body ∷ back)
-  pub holds : P body back
+  pub holds : P body
 
 -- 4: no well-formed tokens and rest make up the option bytes
 abbrev pub NoReading : List ℕ → Type 0
 NoReading m = (tokens : List Token) (rest : List ℕ) → Reads (drop headerSize m) tokens rest → ⊥
 
--- 7: more than one option 82, or one that isn't last
-abbrev pub RelayWrong : List Token → Type 0
-RelayWrong ts = (1 < count relayCode ts) ⊎ Has relayCode (λ body back. OnlyPads back → ⊥) ts
-
 -- 8: the length is neither 11 nor 31, or the first three body bytes are not 1, 1, 0
-abbrev pub OtherForm : List ℕ → List Token → Type 0
-OtherForm body back = ((length body ≢ requestLength) × (length body ≢ fullLength)) ⊎ (take (length delayed) body ≢ delayed)
+abbrev pub OtherForm : List ℕ → Type 0
+OtherForm body = ((length body ≢ requestLength) × (length body ≢ fullLength)) ⊎ (take (length delayed) body ≢ delayed)
 
 -- 9: request form, bytes 1, 1, 0
-abbrev pub RequestBytes : List ℕ → List Token → Type 0
-RequestBytes body back = (length body ≡ requestLength) × (take (length delayed) body ≡ delayed)
+abbrev pub RequestBytes : List ℕ → Type 0
+RequestBytes body = (length body ≡ requestLength) × (take (length delayed) body ≡ delayed)
 
 -- a number applies to a message: each speaks of the message alone
 pub data Applies (m : List ℕ) : Refusal → Type 0 where
@@ -62,7 +53,8 @@ pub data Applies (m : List ℕ) : Refusal → Type 0 where
   broken-options : NoReading m → Applies m BrokenOptions
   no-authentication : WhereRead (λ ts. count authCode ts ≡ 0) m → Applies m NoAuthentication
   repeated-authentication : WhereRead (λ ts. 1 < count authCode ts) m → Applies m RepeatedAuthentication
-  relay-wrong : WhereRead RelayWrong m → Applies m RelayInformation
+  -- more than one option 82, wherever they stand
+  repeated-relay-information : WhereRead (λ ts. 1 < count relayCode ts) m → Applies m RepeatedRelayInformation
   other-form : WhereRead (Has authCode OtherForm) m → Applies m OtherAuthentication
   request-form : WhereRead (Has authCode RequestBytes) m → Applies m RequestForm
 

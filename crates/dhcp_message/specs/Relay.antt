@@ -15,10 +15,12 @@ use Rattle.dhcp_message.specs.Image.{headWith, imageOf}
 abbrev pub RelayBody : List ℕ → Type 0
 RelayBody body = (length body ≤ bodyMost) × Bytes body
 
--- what may become of option 82: as it is; added right before End where there is none; given another body; taken out
+-- what may become of option 82: as it is; added at any place where there is none, so before any option, pad or End; given another body in its place;
+-- taken out
 pub data RelayChange (before after : List Token) : Type 0 where
   kept : after ≡ before → RelayChange before after
-  added : (body : List ℕ) → RelayBody body → count relayCode before ≡ 0 → after ≡ before ++ (opt relayCode body ∷ []) → RelayChange before after
+  added : (front : List Token) (body : List ℕ) (back : List Token) → RelayBody body → count relayCode before ≡ 0
+      → before ≡ front ++ back → after ≡ front ++ (opt relayCode body ∷ back) → RelayChange before after
   replaced : (front : List Token) (old body : List ℕ) (back : List Token) → RelayBody body
       → before ≡ front ++ (opt relayCode old ∷ back) → after ≡ front ++ (opt relayCode body ∷ back) → RelayChange before after
   removed : (front : List Token) (old : List ℕ) (back : List Token)
@@ -59,24 +61,28 @@ pub record RelayKeeps : Type 0 where
   pub once : (m n : List ℕ) → Permitted m n → Kept m n
   pub often : (m n : List ℕ) → Relayed m n → Kept m n
 
--- a message may get these bytes as its options, with whatever hops and giaddr a relay sets
-abbrev pub AnyHeader : List ℕ → List ℕ → Type 0
-AnyHeader m options =
+-- a message may become one with these option bytes, with whatever hops and giaddr a relay sets
+abbrev pub AnyHeader : (List ℕ → List ℕ → Type 0) → List ℕ → List ℕ → Type 0
+AnyHeader May m options =
     (hops giaddr : List ℕ) → length hops ≡ hopsSize → Bytes hops → length giaddr ≡ giaddrSize → Bytes giaddr
-    → Permitted m (headWith hops giaddr (take headerSize m) ++ options)
+    → May m (headWith hops giaddr (take headerSize m) ++ options)
 
 -- the same where the result fits
-abbrev pub WhereFits : List ℕ → List ℕ → Type 0
-WhereFits m options = headerSize + length options ≤ messageMost → AnyHeader m options
+abbrev pub WhereFits : (List ℕ → List ℕ → Type 0) → List ℕ → List ℕ → Type 0
+WhereFits May m options = headerSize + length options ≤ messageMost → AnyHeader May m options
 
--- of a message that passes 2 to 7: its options as they are; any option 82 right before End where there is none; any other body for the one there;
--- and that one taken out
+-- of a message that passes 2 to 7: its options as they are; any option 82 at any place where there is none; any other body for the one there; that one
+-- taken out; and, by more than one change, any option 82 at any place in its stead, so it may also move
 pub record RelayMay : Type 0 where
-  pub keep : (m : List ℕ) → Bytes m → Passes27 m → AnyHeader m (drop headerSize m)
-  pub add : (m : List ℕ) → Passes27 m → (tokens : List Token) (rest body : List ℕ) → Reads (drop headerSize m) tokens rest → count relayCode tokens ≡ 0
-      → length body ≤ bodyMost → Bytes body → WhereFits m (encode tokens ++ (relayCode ∷ length body ∷ (body ++ (endCode ∷ rest))))
+  pub keep : (m : List ℕ) → Bytes m → Passes27 m → AnyHeader Permitted m (drop headerSize m)
+  pub add : (m : List ℕ) → Passes27 m → (front back : List Token) (rest body : List ℕ)
+      → Reads (drop headerSize m) (front ++ back) rest → count relayCode (front ++ back) ≡ 0 → length body ≤ bodyMost → Bytes body
+      → WhereFits Permitted m (encode front ++ (relayCode ∷ length body ∷ (body ++ (encode back ++ (endCode ∷ rest)))))
   pub replace : (m : List ℕ) → Passes27 m → (front : List Token) (old : List ℕ) (back : List Token) (rest body : List ℕ)
       → Reads (drop headerSize m) (front ++ (opt relayCode old ∷ back)) rest → length body ≤ bodyMost → Bytes body
-      → WhereFits m (encode front ++ (relayCode ∷ length body ∷ (body ++ (encode back ++ (endCode ∷ rest)))))
+      → WhereFits Permitted m (encode front ++ (relayCode ∷ length body ∷ (body ++ (encode back ++ (endCode ∷ rest)))))
   pub remove : (m : List ℕ) → Passes27 m → (front : List Token) (old : List ℕ) (back : List Token) (rest : List ℕ)
-      → Reads (drop headerSize m) (front ++ (opt relayCode old ∷ back)) rest → AnyHeader m (encode front ++ (encode back ++ (endCode ∷ rest)))
+      → Reads (drop headerSize m) (front ++ (opt relayCode old ∷ back)) rest → AnyHeader Permitted m (encode front ++ (encode back ++ (endCode ∷ rest)))
+  pub move : (m : List ℕ) → Passes27 m → (front : List Token) (old : List ℕ) (back front′ back′ : List Token) (rest body : List ℕ)
+      → Reads (drop headerSize m) (front ++ (opt relayCode old ∷ back)) rest → front ++ back ≡ front′ ++ back′ → length body ≤ bodyMost → Bytes body
+      → WhereFits Relayed m (encode front′ ++ (relayCode ∷ length body ∷ (body ++ (encode back′ ++ (endCode ∷ rest)))))

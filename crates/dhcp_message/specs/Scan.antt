@@ -5,7 +5,7 @@ use mathlib.Core.Bool.{cond}
 use mathlib.Core.List.{List, [], _∷_}
 use lib.ListN.{length, drop}
 use lib.Dec.{ltb, eqb}
-use Rattle.refusal.specs.declared.Refusal.the-variants.{NoAuthentication, RepeatedAuthentication, RelayInformation}
+use Rattle.refusal.specs.declared.Refusal.the-variants.{NoAuthentication, RepeatedAuthentication, RepeatedRelayInformation}
 use Rattle.dhcp_message.specs.Layout.{headerSize, relayCode, authCode, padSize, optionHead}
 use Rattle.dhcp_message.specs.Options.{Token, pad, opt, Parsed, broken, parsed, Lead, nothing, end, token, lead, decode}
 use Rattle.dhcp_message.specs.Message.{Checked, stopped, passed, checkedOf}
@@ -34,17 +34,14 @@ unfoldable pub hereAt : List ℕ → ℕ → Here
 hereAt m at = hereOf (leadOf (drop at m))
 
 abbrev pub seen90 : Tally → ℕ → Tally
-seen90 f at = record { n90 = f .n90 + 1; at90 = at; n82 = f .n82; at82 = f .at82; size82 = f .size82; last = authCode }
+seen90 f at = record { n90 = f .n90 + 1; at90 = at; n82 = f .n82; at82 = f .at82; size82 = f .size82 }
 
 abbrev pub seen82 : Tally → ℕ → ℕ → Tally
-seen82 f at size = record { n90 = f .n90; at90 = f .at90; n82 = f .n82 + 1; at82 = at; size82 = size; last = relayCode }
-
-abbrev pub seenOther : Tally → ℕ → Tally
-seenOther f c = record { n90 = f .n90; at90 = f .at90; n82 = f .n82; at82 = f .at82; size82 = f .size82; last = c }
+seen82 f at size = record { n90 = f .n90; at90 = f .at90; n82 = f .n82 + 1; at82 = at; size82 = size }
 
 -- what is found after one option more
 unfoldable pub seenOf : Tally → ℕ → ℕ → ℕ → Tally
-seenOf f c at size = cond (eqb c authCode) (seen90 f at) (cond (eqb c relayCode) (seen82 f at size) (seenOther f c))
+seenOf f c at size = cond (eqb c authCode) (seen90 f at) (cond (eqb c relayCode) (seen82 f at size) f)
 
 -- what is found after tokens that start at an offset, and where they end
 abbrev pub scanFrom : Tally → ℕ → List Token → Scan
@@ -57,7 +54,7 @@ scanParsed f at broken = SBroken
 scanParsed f at (parsed ts rest) = scanFrom f at ts
 
 abbrev pub emptyTally : Tally
-emptyTally = record { n90 = 0; at90 = 0; n82 = 0; at82 = 0; size82 = 0; last = 0 }
+emptyTally = record { n90 = 0; at90 = 0; n82 = 0; at82 = 0; size82 = 0 }
 
 unfoldable pub scanOf : List ℕ → Scan
 scanOf m = scanParsed emptyTally headerSize (decode (drop headerSize m))
@@ -68,8 +65,7 @@ shapeFound f ends =
     cond (eqb (f .n90) 0) (SRefused NoAuthentication)
     (cond (ltb 1 (f .n90)) (SRefused RepeatedAuthentication)
     (cond (eqb (f .n82) 0) (SPassed (record { at = f .at90; cut = ends; gap = 0 }))
-    (cond (ltb 1 (f .n82)) (SRefused RelayInformation)
-    (cond (eqb (f .last) relayCode) (SPassed (record { at = f .at90; cut = f .at82; gap = f .size82 })) (SRefused RelayInformation)))))
+    (cond (ltb 1 (f .n82)) (SRefused RepeatedRelayInformation) (SPassed (record { at = f .at90; cut = f .at82; gap = f .size82 })))))
 
 -- 2 to 7, with the places of a message that passes them
 abbrev pub shapeIn : Checked → Shape

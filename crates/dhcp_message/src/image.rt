@@ -4,7 +4,7 @@ ghost use Prim.Native.Nat.{_+_, _≤_};
 ghost use lib.ListN.{length};
 ghost use Rattle.octets.specs.Bytes.{written, zeros};
 ghost use Rattle.dhcp_message.specs.Layout.{macAt, macSize, fullSize};
-ghost use Rattle.dhcp_message.specs.Image.{headZero, coverFits, coverSize, coverLeft};
+ghost use Rattle.dhcp_message.specs.Image.{headZero, coverFits, imageAt, coverSize, coverLeft};
 use crate::Auth;
 use crate::layout::FULL_SIZE;
 use crate::layout::GIADDR_AT;
@@ -14,7 +14,8 @@ use crate::layout::HOPS_SIZE;
 use crate::layout::MAC_AT;
 use crate::layout::MAC_SIZE;
 
-// Whether offsets lie in a message of a size, and what is left without option 82 has place for the fields and fits a room.
+// Whether option 82 lies in a message of a size, what is left without it fits a room, and option 90 lies in the message, wholly before option 82 or
+// behind its end.
 fn covers(size: usize, room: usize, auth: Auth) -> bool
     ensures { λ r. ⌜ r ≡ coverFits size room auth ⌝ }
 {
@@ -24,14 +25,30 @@ fn covers(size: usize, room: usize, auth: Auth) -> bool
     if size - auth.cut < auth.gap {
         return false;
     }
-    let left = size - auth.gap;
-    if room < left {
+    if room < size - auth.gap {
         return false;
     }
-    if left < FULL_SIZE {
+    if size < FULL_SIZE {
         return false;
     }
-    auth.at <= left - FULL_SIZE
+    if size - FULL_SIZE < auth.at {
+        return false;
+    }
+    if auth.at + FULL_SIZE <= auth.cut {
+        return true;
+    }
+    auth.cut + auth.gap <= auth.at
+}
+
+// Where option 90 stands in the image: as many bytes earlier as option 82 takes, where that stands before it.
+fn image_at(auth: Auth) -> usize
+    requires { ⌜ (auth .cut ≤ auth .at → auth .gap ≤ auth .at) ⌝ }
+    ensures { λ r. ⌜ r ≡ imageAt auth ⌝ }
+{
+    if auth.at < auth.cut {
+        return auth.at;
+    }
+    auth.at - auth.gap
 }
 
 // Sets hops, giaddr and the MAC of an option 90 at an offset to 0.
@@ -59,6 +76,6 @@ pub fn cover(message: &[u8], auth: Auth, out: &mut [u8]) -> usize
     let next = cut + auth.gap;
     octets::copy(&message[..cut], out, 0);
     octets::copy(&message[next..], out, cut);
-    blank(out, auth.at);
+    blank(out, image_at(auth));
     message.len() - auth.gap
 }

@@ -28,14 +28,13 @@ pub(crate) enum Here {
     Opt { code: u8, size: usize },
 }
 
-// What a scan has found: how many options 90 and 82, where the last of each stands, the bytes that 82 takes, and the last option's code.
+// What a scan has found: how many options 90 and 82, where the last of each stands, and the bytes that 82 takes.
 pub(crate) struct Tally {
     pub n90: usize,
     pub at90: usize,
     pub n82: usize,
     pub at82: usize,
     pub size82: usize,
-    pub last: u8,
 }
 
 // What a scan of all options gives: an option passes the message's end or End is missing; or what was found, and End's offset.
@@ -98,7 +97,6 @@ fn seen(f: Tally, code: u8, at: usize, size: usize) -> Tally
             n82: f.n82,
             at82: f.at82,
             size82: f.size82,
-            last: AUTHENTICATION,
         };
     }
     if code == RELAY {
@@ -108,17 +106,9 @@ fn seen(f: Tally, code: u8, at: usize, size: usize) -> Tally
             n82: f.n82 + 1,
             at82: at,
             size82: size,
-            last: RELAY,
         };
     }
-    Tally {
-        n90: f.n90,
-        at90: f.at90,
-        n82: f.n82,
-        at82: f.at82,
-        size82: f.size82,
-        last: code,
-    }
+    f
 }
 
 // One pass over the options, up to the first End: it ends what is to be read (RFC 2132, section 3.2).
@@ -131,7 +121,6 @@ fn scan_options(message: &[u8]) -> Scan
         n82: 0,
         at82: 0,
         size82: 0,
-        last: 0,
     };
     let mut at: usize = HEADER_SIZE;
     loop {
@@ -168,16 +157,13 @@ fn shape_found(f: Tally, end: usize) -> Shape
         });
     }
     if 1 < f.n82 {
-        return Shape::Refused(Refusal::RelayInformation);
+        return Shape::Refused(Refusal::RepeatedRelayInformation);
     }
-    if f.last == RELAY {
-        return Shape::Passed(Places {
-            at: f.at90,
-            cut: f.at82,
-            gap: f.size82,
-        });
-    }
-    Shape::Refused(Refusal::RelayInformation)
+    Shape::Passed(Places {
+        at: f.at90,
+        cut: f.at82,
+        gap: f.size82,
+    })
 }
 
 // Whether the magic cookie stands before the options.

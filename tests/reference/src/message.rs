@@ -98,11 +98,11 @@ pub fn shape(message: &[u8]) -> Result<Shape, Refusal> {
     }
     let relay_agents = of_code(&options, RELAY_AGENT);
     if relay_agents.len() > 1 {
-        return Err(Refusal::RelayInformation);
+        return Err(Refusal::RepeatedRelayInformation);
     }
     let relay_agent = relay_agents.first().copied();
     if relay_agent.is_some() && relay_agent != options.last().copied() {
-        return Err(Refusal::RelayInformation);
+        return Err(Refusal::RepeatedRelayInformation);
     }
     Ok(Shape {
         authentication: authentications[0],
