@@ -2,23 +2,21 @@
 use mathlib.Core.Path.{_≡_, refl, sym, ap, _∙_, subst}
 use Prim.Native.Nat.{ℕ, _+_, _≤_, _<_}
 use native.Mathlib.Omega.{arith}
-use mathlib.Core.Bool.{true}
 use mathlib.Core.List.{List, [], _∷_, _++_}
 use lib.ListN.{length}
 use Rattle.octets.specs.Bytes.{Bytes}
 use Rattle.octets.proofs.Elements.{bytes-append, bytes-left, bytes-right}
 use Rattle.dhcp_message.specs.Options.{Token, opt, encode}
-use Rattle.dhcp_message.specs.Message.{count, isLast}
+use Rattle.dhcp_message.specs.Message.{count}
 use Rattle.dhcp_message.specs.Image.{without}
 use Rattle.dhcp_message.specs.Relay.{RelayBody, RelayChange, kept, added, replaced, removed}
 use Rattle.dhcp_message.proofs.Decoding.{Codes, codes-append, codes-left, codes-right}
-use Rattle.dhcp_message.proofs.Tokens.{encode-append, nil-right, count-append, count-split, last-there, last-none, without-append, without-one}
+use Rattle.dhcp_message.proofs.Tokens.{encode-append, count-append, count-split, without-one}
 
 pub record Changed (ts us : List Token) : Type 0 where
   pub same : without 82 us ≡ without 82 ts
   pub codes-kept : Codes us
   pub most : count 82 us ≤ 1
-  pub last : isLast 82 us ≡ true
   pub bytes-kept : Bytes (encode ts) → Bytes (encode us)
 
 -- the bytes of tokens around an option 82
@@ -27,7 +25,7 @@ option-bytes p b q h x y =
     let l : length b < 256 = omega (arith, h .0) in
     rw (encode-append p (opt 82 b ∷ q)) (bytes-append (encode p) _ x (omega arith, (l, bytes-append b (encode q) (h .1) y)))
 
-module _ (ts us : List Token) (cs : Codes ts) (most-82 : count 82 ts ≤ 1) (last-82 : isLast 82 ts ≡ true) where
+module _ (ts us : List Token) (cs : Codes ts) (most-82 : count 82 ts ≤ 1) where
   -- around the one option 82 that is there
   module _ (p : List Token) (old : List ℕ) (q : List Token) (e : ts ≡ p ++ (opt 82 old ∷ q)) where
     alone : (count 82 p ≡ 0) × (count 82 q ≡ 0)
@@ -49,27 +47,27 @@ module _ (ts us : List Token) (cs : Codes ts) (most-82 : count 82 ts ≤ 1) (las
 
   pub changes : RelayChange ts us → Changed ts us
   changes (kept e) =
-      subst (Changed ts) (sym e) (record { same = refl; codes-kept = cs; most = most-82; last = last-82; bytes-kept = λ b. b })
-  changes (added b h z e) = subst (Changed ts) (sym e) (record {
-    same = without-append 82 ts (opt 82 b ∷ []) ∙ nil-right (without 82 ts);
-    codes-kept = codes-append ts (opt 82 b ∷ []) cs (λ e. omega arith, λ e. omega arith, tt);
-    most = rw (count-append 82 ts (opt 82 b ∷ []), z) (omega arith);
-    last = last-there 82 ts b [] z;
-    bytes-kept = λ x. option-bytes ts b [] h x tt;
-  })
+      subst (Changed ts) (sym e) (record { same = refl; codes-kept = cs; most = most-82; bytes-kept = λ b. b })
+  changes (added p b q h z eb ea) =
+      let none : count 82 p + count 82 q ≡ 0 = sym (ap (count 82) eb ∙ count-append 82 p q) ∙ z in
+      let codes = subst Codes eb cs in
+      subst (Changed ts) (sym ea) (record {
+        same = without-one 82 p b q ∙ ap (without 82) (sym eb);
+        codes-kept = codes-append p (opt 82 b ∷ q) (codes-left p q codes) (λ e. omega arith, λ e. omega arith, codes-right p q codes);
+        most = rw (count-split 82 p b q) (omega arith);
+        bytes-kept = λ x.
+            let w : Bytes (encode p ++ encode q) = subst Bytes (ap encode eb ∙ encode-append p q) x in
+            option-bytes p b q h (bytes-left (encode p) (encode q) w) (bytes-right (encode p) (encode q) w);
+      })
   changes (replaced p old b q h eb ea) = subst (Changed ts) (sym ea) (record {
     same = without-one 82 p b q ∙ sym (gone p old q eb);
     codes-kept = codes-append p (opt 82 b ∷ q) (front-codes p old q eb) (back-codes p old q eb);
     most = rw (count-split 82 p b q) (omega (arith, alone p old q eb));
-    last =
-        let z = alone p old q eb .0 in
-        last-there 82 p b q z ∙ sym (ap (isLast 82) eb ∙ last-there 82 p old q z) ∙ last-82;
     bytes-kept = λ x. option-bytes p b q h (sides p old q eb x .0) (sides p old q eb x .1);
   })
   changes (removed p old q eb ea) = subst (Changed ts) (sym ea) (record {
     same = sym (gone p old q eb);
     codes-kept = codes-append p q (front-codes p old q eb) (back-codes p old q eb .2);
     most = rw (count-append 82 p q) (omega (arith, alone p old q eb));
-    last = last-none 82 (p ++ q) (count-append 82 p q ∙ omega (arith, alone p old q eb));
     bytes-kept = λ x. rw (encode-append p q) (bytes-append (encode p) (encode q) (sides p old q eb x .0) (sides p old q eb x .1));
   })

@@ -3,51 +3,95 @@ use mathlib.Core.Path.{_≡_, refl, sym, ap, ap₂, _∙_}
 use Prim.Native.Nat.{ℕ, _+_, _-_, _≤_, _<_}
 use native.Mathlib.Nat.{zero-add}
 use native.Mathlib.Omega.{arith}
-use mathlib.Core.Bool.{Bool, true, false, not}
+use mathlib.Core.Bool.{Bool, true, false, not, _||_, or-true}
+use mathlib.Core.Logic.{_⊎_, inl, inr, ⊎-map, ⊎-elim}
 use mathlib.Core.List.{List, _++_}
 use lib.ListN.{length, take, drop, length-append, length-drop}
 use lib.Seq.{length-take-le, take-all}
 use lib.Dec.{leb}
-use borrow.Author.Tests.{le-leb, lt-leb, leb-true, not-true, not-false}
+use borrow.Author.Tests.{le-leb, lt-leb, lt-ltb, le-ltb, leb-true, not-true, not-false}
 use Rattle.octets.specs.Bytes.{written, zeros}
 use Rattle.octets.proofs.Written.{length-written, written-left, written-join, written-front}
 use Rattle.octets.proofs.Starts.{and-true}
-use Rattle.dhcp_message.specs.Image.{headZero, coverFits, coverBytes, coverSize, coverLeft}
+use Rattle.dhcp_message.specs.Image.{headZero, coverFits, imageAt, coverBytes, coverSize, coverLeft}
 use Rattle.dhcp_message.specs.Seal.{withFields}
 use Rattle.dhcp_message.specs.declared.Auth.{Auth}
 use Rattle.dhcp_message.proofs.Headers.{head-left, head-length}
 
--- what the test means
+-- ---- the test
+
+-- what it means
 pub record Fits (size room : ℕ) (a : Auth) : Type 0 where
   pub stretch : a .cut + a .gap ≤ size
   pub fits-room : size - a .gap ≤ room
-  pub fields-there : a .at + 33 ≤ size - a .gap
+  pub inside : a .at + 33 ≤ size
+  pub apart : (a .at + 33 ≤ a .cut) ⊎ (a .cut + a .gap ≤ a .at)
+
+either : (x y : Bool) → (x || y) ≡ true → (x ≡ true) ⊎ (y ≡ true)
+either true y h = inl refl
+either false y h = inr h
 
 module _ (size room : ℕ) (a : Auth) where
   fits-true : coverFits size room a ≡ true → Fits size room a
   unfolding coverFits
   fits-true h =
-      let left = size - a .gap in
-      let h₁ = and-true (leb (a .cut) size) _ h in
-      let h₂ = and-true (leb (a .gap) (size - a .cut)) _ (h₁ .1) in
-      let h₃ = and-true (leb left room) _ (h₂ .1) in
-      let h₄ = and-true (leb 33 left) _ (h₃ .1) in
-      let l₁ = leb-true (a .cut) size (h₁ .0) in
-      let l₂ = leb-true (a .gap) (size - a .cut) (h₂ .0) in
-      let l₃ = leb-true left room (h₃ .0) in
-      let l₄ = leb-true 33 left (h₄ .0) in
-      let l₅ = leb-true (a .at) (left - 33) (h₄ .1) in
-      record { stretch = omega arith; fits-room = l₃; fields-there = omega arith }
+      let h₁ = and-true (leb (a .cut + a .gap) size) _ h in
+      let h₂ = and-true (leb (size - a .gap) room) _ (h₁ .1) in
+      let h₃ = and-true (leb (a .at + 33) size) _ (h₂ .1) in
+      record {
+        stretch = leb-true _ _ (h₁ .0);
+        fits-room = leb-true _ _ (h₂ .0);
+        inside = leb-true _ _ (h₃ .0);
+        apart = ⊎-map (leb-true _ _) (leb-true _ _) (either (leb (a .at + 33) (a .cut)) _ (h₃ .1));
+      }
+
+  -- by the tests of `covers`
+  pub fits-cut : size < a .cut → false ≡ coverFits size room a
+  unfolding coverFits
+  fits-cut h = let l : size < a .cut + a .gap = omega arith in rw (lt-leb _ _ l)
+
+  module _ (h₁ : a .cut ≤ size) where
+    pub fits-gap : size - a .cut < a .gap → false ≡ coverFits size room a
+    unfolding coverFits
+    fits-gap h = let l : size < a .cut + a .gap = omega arith in rw (lt-leb _ _ l)
+
+    module _ (h₂ : a .gap ≤ size - a .cut) where
+      abbrev l₁ : a .cut + a .gap ≤ size
+      l₁ = omega arith
+
+      pub fits-short : room < size - a .gap → false ≡ coverFits size room a
+      unfolding coverFits
+      fits-short h = rw (le-leb _ _ l₁, lt-leb _ _ h)
+
+      module _ (l₂ : size - a .gap ≤ room) where
+        pub fits-small : size < 33 → false ≡ coverFits size room a
+        unfolding coverFits
+        fits-small h = let l : size < a .at + 33 = omega arith in rw (le-leb _ _ l₁, le-leb _ _ l₂, lt-leb _ _ l)
+
+        module _ (h₃ : 33 ≤ size) where
+          pub fits-past : size - 33 < a .at → false ≡ coverFits size room a
+          unfolding coverFits
+          fits-past h = let l : size < a .at + 33 = omega arith in rw (le-leb _ _ l₁, le-leb _ _ l₂, lt-leb _ _ l)
+
+          module _ (h₄ : a .at ≤ size - 33) where
+            abbrev l₃ : a .at + 33 ≤ size
+            l₃ = omega arith
+
+            pub fits-before : a .at + 33 ≤ a .cut → true ≡ coverFits size room a
+            unfolding coverFits
+            fits-before h = rw (le-leb _ _ l₁, le-leb _ _ l₂, le-leb _ _ l₃, le-leb _ _ h)
+
+            pub fits-behind : a .cut < a .at + 33 → leb (a .cut + a .gap) (a .at) ≡ coverFits size room a
+            unfolding coverFits
+            fits-behind h = rw (le-leb _ _ l₁, le-leb _ _ l₂, le-leb _ _ l₃, lt-leb _ _ h)
 
   fits-all : Fits size room a → coverFits size room a ≡ true
   unfolding coverFits
-  fits-all f =
-      let l₁ : a .cut ≤ size = omega (arith, f .stretch) in
-      let l₂ : a .gap ≤ size - a .cut = omega (arith, f .stretch) in
-      let l₃ = f .fits-room in
-      let l₄ : 33 ≤ size - a .gap = omega (arith, f .fields-there) in
-      let l₅ : a .at ≤ size - a .gap - 33 = omega (arith, f .fields-there) in
-      rw (le-leb _ _ l₁, le-leb _ _ l₂, le-leb _ _ l₃, le-leb _ _ l₄, le-leb _ _ l₅)
+  fits-all f = rw (le-leb _ _ (f .stretch), le-leb _ _ (f .fits-room), le-leb _ _ (f .inside)) (by (f .apart))
+    where
+      by : (a .at + 33 ≤ a .cut) ⊎ (a .cut + a .gap ≤ a .at) → (leb (a .at + 33) (a .cut) || leb (a .cut + a .gap) (a .at)) ≡ true
+      by (inl h) = rw (le-leb _ _ h)
+      by (inr h) = rw (le-leb _ _ h) (or-true (leb (a .at + 33) (a .cut)))
 
   -- by what `covers` returned
   pub fits-given : (r : Bool) → r ≡ coverFits size room a → not r ≡ false → Fits size room a
@@ -56,29 +100,22 @@ module _ (size room : ℕ) (a : Auth) where
   pub fits-not : (r : Bool) → r ≡ coverFits size room a → not r ≡ true → coverFits size room a ≡ false
   fits-not r e h = sym e ∙ not-true r h
 
-  -- by the tests of `covers`
-  pub fits-cut : size < a .cut → false ≡ coverFits size room a
-  unfolding coverFits
-  fits-cut h = rw (lt-leb _ _ h)
+-- ---- the place of option 90 in the image
 
-  module _ (l₁ : a .cut ≤ size) where
-    pub fits-gap : size - a .cut < a .gap → false ≡ coverFits size room a
-    unfolding coverFits
-    fits-gap h = rw (le-leb _ _ l₁, lt-leb _ _ h)
+module _ (a : Auth) where
+  pub image-before : a .at < a .cut → a .at ≡ imageAt a
+  unfolding imageAt
+  image-before h = rw (lt-ltb _ _ h)
 
-    module _ (l₂ : a .gap ≤ size - a .cut) where
-      pub fits-short : room < size - a .gap → false ≡ coverFits size room a
-      unfolding coverFits
-      fits-short h = rw (le-leb _ _ l₁, le-leb _ _ l₂, lt-leb _ _ h)
+  pub image-behind : a .cut ≤ a .at → a .at - a .gap ≡ imageAt a
+  unfolding imageAt
+  image-behind h = rw (le-ltb _ _ h)
 
-      module _ (l₃ : size - a .gap ≤ room) where
-        pub fits-small : size - a .gap < 33 → false ≡ coverFits size room a
-        unfolding coverFits
-        fits-small h = rw (le-leb _ _ l₁, le-leb _ _ l₂, le-leb _ _ l₃, lt-leb _ _ h)
+-- what is subtracted in the second case
+pub gap-before : (size room : ℕ) (a : Auth) → Fits size room a → a .cut ≤ a .at → a .gap ≤ a .at
+gap-before size room a f h = ⊎-elim (λ l. absurd (omega arith)) (λ l. omega arith) (f .apart)
 
-        pub fits-at : 33 ≤ size - a .gap → leb (a .at) (size - a .gap - 33) ≡ coverFits size room a
-        unfolding coverFits
-        fits-at h = rw (le-leb _ _ l₁, le-leb _ _ l₂, le-leb _ _ l₃, le-leb _ _ h)
+-- ---- the writes
 
 -- the parts that are copied, before and behind the stretch
 pub record PartSizes (m : List ℕ) (a : Auth) : Type 0 where
@@ -102,22 +139,30 @@ module _ (m d : List ℕ) (a : Auth) (f : Fits (length m) (length d) a) where
       length-append (take (a .cut) m) (drop (a .cut + a .gap) m)
       ∙ ap₂ (λ (x y : ℕ). x + y) (part-sizes .first) (length-drop (a .cut + a .gap) m) ∙ omega (arith, f .stretch)
 
+  -- option 90 is whole in what is left
+  pub fields-there : imageAt a + 33 ≤ length m - a .gap
+  fields-there = by (f .apart)
+    where
+      by : (a .at + 33 ≤ a .cut) ⊎ (a .cut + a .gap ≤ a .at) → imageAt a + 33 ≤ length m - a .gap
+      by (inl h) = omega (arith, image-before a (omega arith), f .stretch)
+      by (inr h) = omega (arith, image-behind a (omega arith), f .inside)
+
   left-28 : 28 ≤ length left
-  left-28 = omega (arith, left-size, f .fields-there)
+  left-28 = omega (arith, left-size, fields-there)
 
   head-size : length (headZero left) ≡ length left
   head-size = head-length (zeros 1) (zeros 4) refl refl left left-28
 
-  mac-fits : a .at + 17 + length (zeros 16) ≤ length (headZero left)
-  mac-fits = omega (arith, head-size, left-size, f .fields-there)
+  mac-fits : imageAt a + 17 + length (zeros 16) ≤ length (headZero left)
+  mac-fits = omega (arith, head-size, left-size, fields-there)
 
   -- what is written in front, and its size
-  pub cover-bytes : coverBytes m a ≡ written (a .at + 17) (zeros 16) (headZero left)
+  pub cover-bytes : coverBytes m a ≡ written (imageAt a + 17) (zeros 16) (headZero left)
   unfolding coverBytes
   cover-bytes = refl
 
   pub cover-length : length (coverBytes m a) ≡ length m - a .gap
-  cover-length = ap length cover-bytes ∙ length-written (a .at + 17) (zeros 16) (headZero left) mac-fits ∙ head-size ∙ left-size
+  cover-length = ap length cover-bytes ∙ length-written (imageAt a + 17) (zeros 16) (headZero left) mac-fits ∙ head-size ∙ left-size
 
   -- what is returned, and what is left, where all fits
   pub cover-fitting : (coverSize m a d ≡ length m - a .gap) × (coverLeft m a d ≡ coverBytes m a ++ drop (length m - a .gap) d)
@@ -133,15 +178,15 @@ module _ (m d : List ℕ) (a : Auth) (f : Fits (length m) (length d) a) where
       ∙ written-join 0 (a .cut) (take (a .cut) m) (drop (a .cut + a .gap) m) d (zero-add _ ∙ part-sizes .first) (omega (arith, f .stretch, f .fits-room))
       ∙ written-front left d ∙ ap (λ (n : ℕ). left ++ drop n d) left-size
 
-  pub covered : (d₁ d₂ d₃ : List ℕ) → d₁ ≡ written 0 (take (a .cut) m) d
+  pub covered : (at : ℕ) (d₁ d₂ d₃ : List ℕ) → at ≡ imageAt a → d₁ ≡ written 0 (take (a .cut) m) d
       → d₂ ≡ written (a .cut) (take (length m - (a .cut + a .gap)) (drop (a .cut + a .gap) m)) d₁
-      → d₃ ≡ written (a .at + 17) (zeros 16) (headZero d₂) → (length m - a .gap ≡ coverSize m a d) × (d₃ ≡ coverLeft m a d)
-  covered d₁ d₂ d₃ e₁ e₂ e₃ =
+      → d₃ ≡ written (at + 17) (zeros 16) (headZero d₂) → (length m - a .gap ≡ coverSize m a d) × (d₃ ≡ coverLeft m a d)
+  covered at d₁ d₂ d₃ e₀ e₁ e₂ e₃ =
       let tail = drop (length m - a .gap) d in (
         sym (cover-fitting .0),
-        e₃
-            ∙ ap (written (a .at + 17) (zeros 16)) (ap headZero (copies d₁ d₂ e₁ e₂) ∙ head-left (zeros 1) (zeros 4) refl refl left left-28 tail)
-            ∙ written-left (a .at + 17) (zeros 16) (headZero left) tail mac-fits
+        e₃ ∙ ap (λ (n : ℕ). written (n + 17) (zeros 16) (headZero d₂)) e₀
+            ∙ ap (written (imageAt a + 17) (zeros 16)) (ap headZero (copies d₁ d₂ e₁ e₂) ∙ head-left (zeros 1) (zeros 4) refl refl left left-28 tail)
+            ∙ written-left (imageAt a + 17) (zeros 16) (headZero left) tail mac-fits
             ∙ ap (λ (x : List ℕ). x ++ tail) (sym cover-bytes) ∙ sym (cover-fitting .1),
       )
 
@@ -153,5 +198,5 @@ covered-not m d a h = (rw h, rw h)
 -- `cover` goes by the offsets alone
 pub covers-offsets : (m : List ℕ) (a : Auth) (counter id : ℕ) (out : List ℕ)
     → (coverSize m (withFields a counter id) out ≡ coverSize m a out) × (coverLeft m (withFields a counter id) out ≡ coverLeft m a out)
-unfolding coverSize coverLeft coverBytes coverFits
+unfolding coverSize coverLeft coverBytes coverFits imageAt
 covers-offsets m a counter id out = (refl, refl)

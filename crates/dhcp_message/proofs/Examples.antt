@@ -10,10 +10,11 @@ use Rattle.octets.proofs.Elements.{bytes-zeros}
 use Rattle.dhcp_message.specs.Options.{Token, pad, opt, encode, Reads, decodeAt}
 use Rattle.dhcp_message.specs.Message.{checkedTokens, checkedOf, Passes27}
 use Rattle.dhcp_message.specs.Said.{saidBy, saidOf, formOf}
-use Rattle.dhcp_message.specs.Image.{headWith, imageOf, coverFits, coverSize}
+use Rattle.dhcp_message.specs.Image.{headWith, imageOf, coverFits, imageAt, coverBytes, coverSize, coverLeft}
 use Rattle.dhcp_message.specs.Scan.{seenOf, scanOf}
 use Rattle.dhcp_message.specs.Relay.{RelayChange, added, replaced, removed, Permitted}
 use Rattle.dhcp_message.specs.Seal.{fieldsPut, macPut}
+use Rattle.dhcp_message.proofs.Relays.{relay-may}
 use Rattle.dhcp_message.specs.Bench.{BenchExamples, distinctOf, distinct, LayoutPinned}
 
 pub bench-examples : BenchExamples
@@ -60,23 +61,38 @@ options-read : Reads (drop 240 distinct) options (82 ∷ 0 ∷ [])
 options-read = ((omega arith, omega arith, omega arith, (omega arith, omega arith, omega arith, (omega arith, omega arith, omega arith, tt))), refl)
 
 pub layout-pinned : LayoutPinned
-unfolding saidOf formOf checkedOf checkedTokens decodeAt scanOf seenOf saidBy imageOf coverFits coverSize written fieldsPut macPut be bigAt
+unfolding saidOf formOf checkedOf checkedTokens decodeAt scanOf seenOf saidBy imageOf coverFits imageAt coverBytes coverSize coverLeft written fieldsPut macPut be bigAt
 layout-pinned = record {
   form = refl;
   scanned = refl;
   said = refl;
   image = refl;
-  covers-33 = refl;
-  covers-32 = refl;
+  covers-before = refl;
+  covers-into = refl;
+  covers-behind = refl;
+  covers-out-of = refl;
+  covers-past-the-end = refl;
   fields-put = refl;
   mac-put = refl;
   sealed = refl;
+  early-form = refl;
+  early-image = refl;
+  early-covered = refl;
+  early-sealed = refl;
   relay-replaces = relayed distinct _ options (front ++ (opt 82 (7 ∷ []) ∷ pad ∷ [])) (82 ∷ 0 ∷ []) tt options-read
       (replaced front (90 ∷ 9 ∷ []) (7 ∷ []) (pad ∷ []) (omega arith, (omega arith, tt)) refl refl) refl (omega arith);
   relay-removes = relayed distinct _ options (front ++ (pad ∷ [])) (82 ∷ 0 ∷ []) tt options-read
       (removed front (90 ∷ 9 ∷ []) (pad ∷ []) refl refl) refl (omega arith);
-  relay-adds = relayed (distinctOf (90 ∷ 0 ∷ 255 ∷ [])) _ (opt 90 [] ∷ []) (opt 90 [] ∷ opt 82 (7 ∷ []) ∷ []) [] tt
-      ((omega arith, omega arith, omega arith, tt), refl) (added (7 ∷ []) (omega arith, (omega arith, tt)) refl refl) refl (omega arith);
+  relay-adds-last = relayed (distinctOf (90 ∷ 0 ∷ 255 ∷ [])) _ (opt 90 [] ∷ []) (opt 90 [] ∷ opt 82 (7 ∷ []) ∷ []) [] tt
+      ((omega arith, omega arith, omega arith, tt), refl) (added (opt 90 [] ∷ []) (7 ∷ []) [] (omega arith, (omega arith, tt)) refl refl refl)
+      refl (omega arith);
+  relay-adds-first = relayed (distinctOf (90 ∷ 0 ∷ 255 ∷ [])) _ (opt 90 [] ∷ []) (opt 82 (7 ∷ []) ∷ opt 90 [] ∷ []) [] tt
+      ((omega arith, omega arith, omega arith, tt), refl) (added [] (7 ∷ []) (opt 90 [] ∷ []) (omega arith, (omega arith, tt)) refl refl refl)
+      refl (omega arith);
+  relay-moves = relay-may .move distinct tt front (90 ∷ 9 ∷ []) (pad ∷ []) (opt 12 (90 ∷ 82 ∷ 255 ∷ []) ∷ [])
+      (pad ∷ opt 90 (1 ∷ 1 ∷ 0 ∷ upFrom 201 28) ∷ pad ∷ []) (82 ∷ 0 ∷ []) (90 ∷ 9 ∷ []) options-read refl (omega arith)
+      (omega arith, (omega arith, tt)) (omega arith) (250 ∷ []) (upFrom 251 4) refl (omega arith, tt) refl
+      (omega arith, (omega arith, (omega arith, (omega arith, tt))));
   relay-body-255 = (omega arith, bytes-zeros 255);
   relay-body-256 = λ h. omega (arith, h .0);
   number-0 = refl;

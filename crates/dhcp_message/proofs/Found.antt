@@ -1,4 +1,4 @@
--- What the pass over the options finds, on tokens: counts, and of an option that is there once its offset, its size and whether it is last.
+-- What the pass over the options finds, on tokens: counts, and of an option that is there once its offset and its size.
 use mathlib.Core.Path.{_≡_, refl, sym, ap, ap₂, _∙_}
 use mathlib.Core.Logic.{_≢_}
 use Prim.Native.Nat.{ℕ, suc, _+_, _-_}
@@ -10,16 +10,16 @@ use lib.ListN.{length, length-append}
 use lib.Dec.{eqb}
 use borrow.Author.Tests.{ne-eqb, eq-eqb, eqb-true, eqb-false}
 use Rattle.dhcp_message.specs.Options.{Token, pad, opt, encode, body}
-use Rattle.dhcp_message.specs.Message.{count, optionOf, tokensBefore, onlyPads, isLast}
+use Rattle.dhcp_message.specs.Message.{count, optionOf, tokensBefore}
 use Rattle.dhcp_message.specs.Scan.{seenOf, scanFrom}
 use Rattle.dhcp_message.specs.declared.scan.Tally.{Tally}
 use Rattle.dhcp_message.specs.declared.scan.Scan.the-variants.{Whole as SWhole}
-use Rattle.dhcp_message.proofs.Tokens.{nil-right, no-hit, Split, split, option-at, before-at, last-at, none-back}
+use Rattle.dhcp_message.proofs.Tokens.{nil-right, no-hit, Split, split, option-at, before-at, none-back}
 use Rattle.dhcp_message.proofs.Turns.{seen-auth, seen-relay, seen-other}
 
 -- ---- what was found, on tokens
 
--- the offset of the last option of code c among tokens from an offset on, the bytes it takes, and the last option's code; else what was before
+-- the offset of the last option of code c among tokens from an offset on, and the bytes it takes; else what was before
 abbrev pub place : ℕ → ℕ → ℕ → List Token → ℕ
 place c at d [] = d
 place c at d (pad ∷ ts) = place c (at + 1) d ts
@@ -30,11 +30,6 @@ size c d [] = d
 size c d (pad ∷ ts) = size c d ts
 size c d (opt e b ∷ ts) = size c (cond (eqb e c) (2 + length b) d) ts
 
-abbrev pub lastCode : ℕ → List Token → ℕ
-lastCode d [] = d
-lastCode d (pad ∷ ts) = lastCode d ts
-lastCode d (opt e b ∷ ts) = lastCode e ts
-
 abbrev pub resume : Tally → ℕ → List Token → Tally
 resume f at ts = record {
   n90 = f .n90 + count 90 ts;
@@ -42,7 +37,6 @@ resume f at ts = record {
   n82 = f .n82 + count 82 ts;
   at82 = place 82 at (f .at82) ts;
   size82 = size 82 (f .size82) ts;
-  last = lastCode (f .last) ts;
 }
 
 module _ (f : Tally) (c at : ℕ) (b : List ℕ) (ts : List Token) where
@@ -51,10 +45,10 @@ module _ (f : Tally) (c at : ℕ) (b : List ℕ) (ts : List Token) where
   one-more true true hx hy = absurd (omega (arith, eqb-true c 90 hx, eqb-true c 82 hy))
   one-more true false hx hy =
       let e = eqb-true c 90 hx in
-      rw (← seen-auth f c at (2 + length b) e, hx, hy, add-assoc, zero-add, e)
+      rw (← seen-auth f c at (2 + length b) e, hx, hy, add-assoc, zero-add)
   one-more false true hx hy =
       let e = eqb-true c 82 hy in
-      rw (← seen-relay f c at (2 + length b) (eqb-false c 90 hx) e, hx, hy, add-assoc, zero-add, e)
+      rw (← seen-relay f c at (2 + length b) (eqb-false c 90 hx) e, hx, hy, add-assoc, zero-add)
   one-more false false hx hy =
       let e = seen-other f c at (2 + length b) (eqb-false c 90 hx) (eqb-false c 82 hy) in
       rw (← e, hx, hy, zero-add (count 90 ts), zero-add (count 82 ts))
@@ -98,21 +92,6 @@ module _ (c : ℕ) where
     size-none : (d : ℕ) → size c d ts ≡ d
     size-none d = ap (size c d) (sym (nil-right ts)) ∙ size-behind [] ts d z
 
-  code-behind : (b : List ℕ) (q p : List Token) (d : ℕ) → lastCode d (p ++ (opt c b ∷ q)) ≡ lastCode c q
-  code-behind b q [] d = refl
-  code-behind b q (pad ∷ p) d = code-behind b q p d
-  code-behind b q (opt e a ∷ p) d = code-behind b q p e
-
-  code-none : (ts : List Token) (d : ℕ) → d ≢ c → count c ts ≡ 0 → eqb (lastCode d ts) c ≡ false
-  code-none [] d n z = ne-eqb d c n
-  code-none (pad ∷ ts) d n z = code-none ts d n z
-  code-none (opt e b ∷ ts) d n z = let h = no-hit c e ts (eqb e c) refl z in code-none ts e (eqb-false e c (h .0)) (h .1)
-
-  code-pads : (ts : List Token) → count c ts ≡ 0 → eqb (lastCode c ts) c ≡ onlyPads ts
-  code-pads [] z = eq-eqb c c refl
-  code-pads (pad ∷ ts) z = code-pads ts z
-  code-pads (opt e b ∷ ts) z = let h = no-hit c e ts (eqb e c) refl z in code-none ts e (eqb-false e c (h .0)) (h .1)
-
   module _ (ts : List Token) (once : count c ts ≡ 1) where
     abbrev s : Split c ts
     s = split c ts (omega arith)
@@ -135,9 +114,3 @@ module _ (c : ℕ) where
         ap (size c d) (s .tokens) ∙ size-behind (opt c (s .body) ∷ s .back) (s .front) d (s .none-front)
         ∙ ap (λ (x : Bool). size c (cond x (2 + length (s .body)) d) (s .back)) (eq-eqb c c refl) ∙ size-none (s .back) back-none _
         ∙ e ∙ ap length (sym (option-at s))
-
-    pub code-once : (d : ℕ) → eqb (lastCode d ts) c ≡ isLast c ts
-    code-once d =
-        ap (λ (us : List Token). eqb (lastCode d us) c) (s .tokens)
-        ∙ ap (λ (n : ℕ). eqb n c) (code-behind (s .body) (s .back) (s .front) d) ∙ code-pads (s .back) back-none
-        ∙ sym (last-at s)

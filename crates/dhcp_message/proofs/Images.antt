@@ -1,47 +1,26 @@
--- The covered image: what `cover` writes for a message in full form is its image. Option 82 stands behind option 90, so taking it out moves
--- nothing before it.
+-- The covered image: what `cover` writes for a message in full form is its image. Taking out option 82 moves option 90 where that stands behind it;
+-- `Stands` says where to, for either order.
 use mathlib.Core.Path.{_≡_, refl, sym, ap, ap₂, _∙_}
-use mathlib.Core.Logic.{_≢_}
+use mathlib.Core.Logic.{_≢_, _⊎_, inl, inr}
 use Prim.Native.Nat.{ℕ, zero, suc, _+_, _-_, _≤_}
-use native.Mathlib.Nat.{add-zero, zero-add}
+use native.Mathlib.Nat.{add-zero}
 use native.Mathlib.Omega.{arith}
-use mathlib.Core.Bool.{Bool, true, false, cond}
 use mathlib.Core.List.{List, [], _∷_, _++_, append-assoc}
-use lib.ListN.{length, take, drop, length-append, length-drop, take-append-drop}
-use lib.Seq.{length-take-le, take-at, drop-at, drop-append-add}
-use lib.Dec.{eqb}
+use lib.ListN.{length, take, drop, length-append, take-append-drop}
+use lib.Seq.{take-at, drop-at, drop-append-add}
 use Rattle.octets.specs.Bytes.{written, zeros}
 use Rattle.octets.proofs.Written.{length-written}
-use Rattle.dhcp_message.specs.Options.{Token, pad, opt, encode}
-use Rattle.dhcp_message.specs.Message.{count, optionOf, offsetOf, onlyPads, isLast}
-use Rattle.dhcp_message.specs.Image.{without, macZero, headZero, imageOf, coverBytes, coverSize, coverLeft}
+use Rattle.dhcp_message.specs.Options.{Token, opt, encode}
+use Rattle.dhcp_message.specs.Message.{count, optionOf, tokensBefore, offsetOf}
+use Rattle.dhcp_message.specs.Image.{without, macZero, headZero, imageOf, imageAt, coverBytes, coverSize, coverLeft}
 use Rattle.dhcp_message.specs.declared.Auth.{Auth}
-use Rattle.dhcp_message.proofs.Tokens.{Split, split, encode-append, count-append, option-none, before-none}
+use Rattle.dhcp_message.proofs.Tokens.{Split, split, encode-append, count-append, count-split, option-none, before-none, before-behind}
 use Rattle.dhcp_message.proofs.Tokens.{without-none, without-append, without-one, count-without}
-use Rattle.dhcp_message.proofs.Tokens.{zero-append, zero-none, written-body, option-at, none-back}
+use Rattle.dhcp_message.proofs.Tokens.{zero-append, zero-none, written-body, option-there, before-there, option-at, before-at, none-back}
 use Rattle.dhcp_message.proofs.Passing.{Passing, whole, header-size, image-passed, around, front-size, inside}
-use Rattle.dhcp_message.proofs.FullForms.{Fully, parts, at-is, cut-is, gap-is, body-long}
+use Rattle.dhcp_message.proofs.FullForms.{Fully, parts, at-is, cut-is, gap-is, body-long, option-inside}
 use Rattle.dhcp_message.proofs.Headers.{head-left, head-length}
-use Rattle.dhcp_message.proofs.Covers.{Fits, cover-bytes, cover-length, cover-fitting}
-
--- ---- tokens
-
--- an option behind others: they are not only pads
-pads-not : (p : List Token) (e : ℕ) (b : List ℕ) (q : List Token) → onlyPads (p ++ (opt e b ∷ q)) ≡ false
-pads-not [] e b q = refl
-pads-not (pad ∷ p) e b q = pads-not p e b q
-pads-not (opt d a ∷ p) e b q = refl
-
--- no option of code c before another option, where c is last
-none-before : (c : ℕ) (p : List Token) (e : ℕ) (b : List ℕ) (q : List Token) → isLast c (p ++ (opt e b ∷ q)) ≡ true → count c p ≡ 0
-none-before c [] e b q h = refl
-none-before c (pad ∷ p) e b q h = none-before c p e b q h
-none-before c (opt d a ∷ p) e b q h = by (eqb d c) (none-before c p e b q) h
-  where
-    by : (x : Bool) → (isLast c (p ++ (opt e b ∷ q)) ≡ true → count c p ≡ 0)
-        → cond x (onlyPads (p ++ (opt e b ∷ q))) (isLast c (p ++ (opt e b ∷ q))) ≡ true → cond x 1 0 + count c p ≡ 0
-    by true ih k = let f = pads-not p e b q in let z : _≡_ {A = ℕ} 0 1 = cc in absurd (omega arith)
-    by false ih k = zero-add (count c p) ∙ ih k
+use Rattle.dhcp_message.proofs.Covers.{Fits, image-before, image-behind, cover-bytes, cover-length, cover-fitting}
 
 -- ---- option 82 taken out of the bytes
 
@@ -98,7 +77,7 @@ module _ {m : List ℕ} {ts : List Token} {rest : List ℕ} (p : Passing m ts re
 
 module _ {m : List ℕ} {a : Auth} (y : Fully m a) where
   abbrev front : List Token
-  front = parts y .front
+  front = without 82 (parts y .front)
 
   abbrev body : List ℕ
   body = parts y .body
@@ -109,20 +88,16 @@ module _ {m : List ℕ} {a : Auth} (y : Fully m a) where
   abbrev left : List ℕ
   left = take (a .cut) m ++ drop (a .cut + a .gap) m
 
-  pub front-82 : count 82 front ≡ 0
-  front-82 = none-before 82 front 90 body (parts y .back) (ap (isLast 82) (sym (parts y .tokens)) ∙ y .passing .last-82)
-
   left-is : without 82 (y .tokens) ≡ front ++ (opt 90 body ∷ back)
-  left-is =
-      ap (without 82) (parts y .tokens) ∙ without-append 82 front (opt 90 body ∷ parts y .back)
-      ∙ ap (λ (us : List Token). us ++ (opt 90 body ∷ back)) (without-none 82 front front-82)
+  left-is = ap (without 82) (parts y .tokens) ∙ without-append 82 (parts y .front) (opt 90 body ∷ parts y .back)
 
   zero-is : macZero (without 82 (y .tokens)) ≡ front ++ (opt 90 (written 15 (zeros 16) body) ∷ back)
   zero-is =
       let n : _≢_ {A = ℕ} 90 82 = λ e. omega arith in
+      let cf : count 90 front ≡ 0 = count-without 82 90 n (parts y .front) ∙ parts y .none-front in
       let cb : count 90 back ≡ 0 = count-without 82 90 n (parts y .back) ∙ none-back (parts y) (omega (arith, y .passing .one-90)) in
       ap macZero left-is ∙ zero-append front (opt 90 body ∷ back)
-      ∙ ap₂ (λ (us vs : List Token). us ++ (opt 90 (written 15 (zeros 16) body) ∷ vs)) (zero-none front (parts y .none-front)) (zero-none back cb)
+      ∙ ap₂ (λ (us vs : List Token). us ++ (opt 90 (written 15 (zeros 16) body) ∷ vs)) (zero-none front cf) (zero-none back cb)
 
   -- the bytes of header, these tokens with a body of option 90, and the rest
   abbrev around-body : List ℕ → List ℕ → List ℕ
@@ -140,19 +115,56 @@ module _ {m : List ℕ} {a : Auth} (y : Fully m a) where
   pub stretch-inside : a .cut + a .gap ≤ length m
   stretch-inside = omega (arith, cut-is y, gap-is y, cuts (y .passing) .0)
 
-  -- option 90 stands before the stretch of option 82, so it is in what is left
-  fields-left : a .at + 33 ≤ length m - a .gap
-  fields-left =
-      let n : length left ≡ length m - a .gap =
-      length-append (take (a .cut) m) (drop (a .cut + a .gap) m)
-      ∙ ap₂ (λ (x y : ℕ). x + y) (length-take-le (a .cut) m (omega (arith, stretch-inside))) (length-drop (a .cut + a .gap) m)
-      ∙ omega (arith, stretch-inside) in
-      let e = sym n ∙ ap length left-bytes ∙ length-append (take 240 m ++ encode front) _ in
-      let b = length-append body (encode back ++ (255 ∷ y .rest)) in
-      omega (arith, front-size (y .passing) (parts y), at-is y, body-long y)
+  -- option 82 and option 90 don't overlap, and without option 82 option 90 stands at `imageAt`
+  record Stands : Type 0 where
+    pub apart : (a .at + 33 ≤ a .cut) ⊎ (a .cut + a .gap ≤ a .at)
+    pub in-image : 240 + length (encode front) ≡ imageAt a
+
+  abbrev before-90 : List Token
+  before-90 = parts y .front
+
+  at-front : a .at ≡ 240 + length (encode before-90)
+  at-front = at-is y ∙ ap (λ (us : List Token). 240 + length (encode us)) (before-at (parts y))
+
+  -- no option 82 before option 90
+  stands-late : count 82 before-90 ≡ 0 → Stands
+  stands-late z =
+      let e = ap (tokensBefore 82) (parts y .tokens) ∙ before-behind 82 (opt 90 body ∷ parts y .back) before-90 z in
+      let n = cut-is y ∙ ap (λ (us : List Token). 240 + length (encode us)) e in
+      let l : a .at + 33 ≤ a .cut = omega (arith, at-front, body-long y, simp (encode-append, length-append) at n) in
+      let f = ap (λ (us : List Token). 240 + length (encode us)) (without-none 82 before-90 z) in
+      record { apart = inl l; in-image = f ∙ sym at-front ∙ image-before a (omega arith) }
+
+  stands-early : Split 82 before-90 → Stands
+  stands-early s =
+      let behind = s .back ++ (opt 90 body ∷ parts y .back) in
+      let e : y .tokens ≡ s .front ++ (opt 82 (s .body) ∷ behind) =
+      parts y .tokens ∙ ap (λ (us : List Token). us ++ (opt 90 body ∷ parts y .back)) (s .tokens)
+      ∙ append-assoc (s .front) (opt 82 (s .body) ∷ s .back) (opt 90 body ∷ parts y .back) in
+      let cut : a .cut ≡ 240 + length (encode (s .front)) =
+      cut-is y ∙ ap (λ (us : List Token). 240 + length (encode us)) (ap (tokensBefore 82) e ∙ before-there 82 (s .front) (s .body) behind (s .none-front)) in
+      let gap : a .gap ≡ 2 + length (s .body) =
+      gap-is y ∙ ap length (ap (optionOf 82) e ∙ option-there 82 (s .front) (s .body) behind (s .none-front)) ∙ omega arith in
+      let e-at = at-front ∙ ap (λ (us : List Token). 240 + length (encode us)) (s .tokens) in
+      let at = simp (encode-append, length-append) at e-at in
+      let l : a .cut + a .gap ≤ a .at = omega arith in
+      let c = ap (count 82) e ∙ count-split 82 (s .front) (s .body) behind ∙ ap (λ (n : ℕ). count 82 (s .front) + (1 + n)) (count-append 82 (s .back) _) in
+      let none : count 82 (s .front ++ s .back) ≡ 0 = count-append 82 (s .front) (s .back) ∙ omega (arith, y .passing .most-82) in
+      let f : 240 + length (encode front) ≡ 240 + (length (encode (s .front)) + length (encode (s .back))) =
+      ap (λ (us : List Token). 240 + length (encode us))
+      (ap (without 82) (s .tokens) ∙ without-one 82 (s .front) (s .body) (s .back) ∙ without-none 82 (s .front ++ s .back) none)
+      ∙ simp (encode-append, length-append) refl in
+      record { apart = inr l; in-image = omega (arith, image-behind a (omega arith)) }
+
+  stands : Stands
+  stands = by (count 82 before-90) refl
+    where
+      by : (n : ℕ) → count 82 before-90 ≡ n → Stands
+      by zero z = stands-late z
+      by (suc n) z = stands-early (split 82 before-90 (omega arith))
 
   fits-full : (room : ℕ) → length m ≤ room → Fits (length m) room a
-  fits-full room h = record { stretch = stretch-inside; fits-room = omega arith; fields-there = fields-left }
+  fits-full room h = record { stretch = stretch-inside; fits-room = omega arith; inside = option-inside y; apart = stands .apart }
 
   -- the image, from the bytes
   pub image-is : coverBytes m a ≡ imageOf m
@@ -162,14 +174,14 @@ module _ {m : List ℕ} {a : Auth} (y : Fully m a) where
       let b0 = written 15 (zeros 16) body in
       let h28 : 28 ≤ length h = omega (arith, header-size (y .passing)) in
       let lb : 15 + length (zeros 16) ≤ length body = omega (arith, body-long y) in
-      let lpre : length (h0 ++ encode front) ≡ a .at =
+      let lpre : length (h0 ++ encode front) ≡ imageAt a =
       length-append h0 (encode front)
-      ∙ ap (λ (n : ℕ). n + length (encode front)) (head-length (zeros 1) (zeros 4) refl refl h h28)
-      ∙ sym (length-append h (encode front)) ∙ front-size (y .passing) (parts y) ∙ sym (at-is y) in
+      ∙ ap (λ (n : ℕ). n + length (encode front)) (head-length (zeros 1) (zeros 4) refl refl h h28 ∙ header-size (y .passing))
+      ∙ stands .in-image in
       cover-bytes m m a (fits-full (length m) (omega arith))
-      ∙ ap (λ (x : List ℕ). written (a .at + 17) (zeros 16) (headZero x)) (left-bytes ∙ sym (spread h body))
-      ∙ ap (written (a .at + 17) (zeros 16)) (head-left (zeros 1) (zeros 4) refl refl h h28 _ ∙ spread h0 body)
-      ∙ written-body (a .at) 15 90 (length body) (zeros 16) (h0 ++ encode front) body _ lpre lb
+      ∙ ap (λ (x : List ℕ). written (imageAt a + 17) (zeros 16) (headZero x)) (left-bytes ∙ sym (spread h body))
+      ∙ ap (written (imageAt a + 17) (zeros 16)) (head-left (zeros 1) (zeros 4) refl refl h h28 _ ∙ spread h0 body)
+      ∙ written-body (imageAt a) 15 90 (length body) (zeros 16) (h0 ++ encode front) body _ lpre lb
       ∙ ap (λ (n : ℕ). (h0 ++ encode front) ++ (90 ∷ n ∷ (b0 ++ (encode back ++ (255 ∷ y .rest))))) (sym (length-written 15 (zeros 16) body lb))
       ∙ sym (spread h0 b0)
       ∙ ap (λ (us : List Token). h0 ++ (encode us ++ (255 ∷ y .rest))) (sym zero-is)

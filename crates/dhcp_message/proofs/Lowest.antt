@@ -20,10 +20,10 @@ use Rattle.refusal.specs.declared.Refusal.the-variants.{RepeatedRelayInformatio
 use Rattle.dhcp_message.specs.Layout.{magicCookie, delayed}
 use Rattle.octets.specs.Bytes.{Bytes, starts}
 use Rattle.dhcp_message.specs.Options.{Token, opt, Parsed, broken, parsed, decode, Reads}
-use Rattle.dhcp_message.specs.Message.{count, optionOf, onlyPads, isLast, Checked, stopped, passed, checkedTokens, checkedParsed, checkedOf, Passed}
+use Rattle.dhcp_message.specs.Message.{count, optionOf, Checked, stopped, passed, checkedTokens, checkedParsed, checkedOf, Passed}
 use Rattle.dhcp_message.specs.Said.{refused, says, saidFor, saidBy, placesOf, formSaid, formIn, formOf, formNumber}
-use Rattle.dhcp_message.specs.Numbers.{OnlyPads, WhereRead, Has, RelayWrong, OtherForm, LowestGiven, Applies, wrong-size}
-use Rattle.dhcp_message.specs.Numbers.{wrong-cookie, broken-options, no-authentication, repeated-authentication, relay-wrong}
+use Rattle.dhcp_message.specs.Numbers.{WhereRead, Has, OtherForm, LowestGiven, Applies, wrong-size}
+use Rattle.dhcp_message.specs.Numbers.{wrong-cookie, broken-options, no-authentication, repeated-authentication, repeated-relay-information}
 use Rattle.dhcp_message.specs.Numbers.{other-form, request-form}
 use Rattle.dhcp_message.specs.declared.Auth.{Auth}
 use Rattle.dhcp_message.specs.declared.Form.{Form}
@@ -31,7 +31,7 @@ use Rattle.dhcp_message.specs.declared.Form.the-variants.{Refused, Full}
 use Rattle.octets.proofs.Starts.{starts-true, starts-not}
 use Rattle.octets.proofs.Elements.{bytes-drop}
 use Rattle.dhcp_message.proofs.Decoding.{decode-reads, reads-decode}
-use Rattle.dhcp_message.proofs.Tokens.{Split, split, count-split, option-there, last-there, last-none, pads-true, pads-false, option-at}
+use Rattle.dhcp_message.proofs.Tokens.{Split, count-split, option-there, option-at}
 use Rattle.dhcp_message.proofs.Passing.{Passing, passing, split-90}
 
 -- ---- which numbers the message alone decides
@@ -42,7 +42,7 @@ applies-within m r (wrong-cookie h) = omega arith
 applies-within m r (broken-options h) = omega arith
 applies-within m r (no-authentication h) = omega arith
 applies-within m r (repeated-authentication h) = omega arith
-applies-within m r (relay-wrong h) = omega arith
+applies-within m r (repeated-relay-information h) = omega arith
 applies-within m r (other-form h) = omega arith
 applies-within m r (request-form h) = omega arith
 
@@ -73,27 +73,6 @@ module _ (m : List ℕ) (bytes : Bytes m) (ts : List Token) (rest : List ℕ) (e
 
 -- ---- 5 to 7
 
--- the one option of a code has no other before it
-front-none : (c : ℕ) (ts p : List Token) (b : List ℕ) (q : List Token) → count c ts ≤ 1 → ts ≡ p ++ (opt c b ∷ q) → count c p ≡ 0
-front-none c ts p b q h e = let n : count c ts ≡ count c p + (1 + count c q) = ap (count c) e ∙ count-split c p b q in omega arith
-
-not-last : (ts : List Token) → isLast 82 ts ≡ false → Has 82 (λ body back. OnlyPads back → ⊥) ts
-not-last ts h = by (count 82 ts) refl
-  where
-    by : (n : ℕ) → count 82 ts ≡ n → Has 82 (λ body back. OnlyPads back → ⊥) ts
-    by zero z = let l = last-none 82 ts z in let w : _≡_ {A = ℕ} 0 1 = cc in absurd (omega arith)
-    by (suc n) z =
-        let s = split 82 ts (omega arith) in
-        let l : onlyPads (s .back) ≡ false = sym (ap (isLast 82) (s .tokens) ∙ last-there 82 (s .front) (s .body) (s .back) (s .none-front)) ∙ h in
-        record { front = s .front; body = s .body; back = s .back; splits = s .tokens; holds = pads-false (s .back) l }
-
-relay-right : (ts : List Token) → count 82 ts ≤ 1 → isLast 82 ts ≡ true → RelayWrong ts → ⊥
-relay-right ts h l (inl w) = omega arith
-relay-right ts h l (inr w) =
-    let z = front-none 82 ts (w .front) (w .body) (w .back) h (w .splits) in
-    let k : onlyPads (w .back) ≡ true = sym (ap (isLast 82) (w .splits) ∙ last-there 82 (w .front) (w .body) (w .back) z) ∙ l in
-    w .holds (pads-true (w .back) k)
-
 -- what is said of a refusal that is given, and of a message that passes
 abbrev Given : List ℕ → Checked → Type 0
 Given m (stopped r) = Applies m r × Below m (numberOf r) × (numberOf r < 8)
@@ -101,12 +80,12 @@ Given m (passed ts rest) = Below m 8
 
 module _ (m : List ℕ) (bytes : Bytes m) where
   given-tokens : Below m 5 → (ts : List Token) (rest : List ℕ) → decode (drop 240 m) ≡ parsed ts rest
-      → (x y z l : Bool) → eqb (count 90 ts) 0 ≡ x → ltb 1 (count 90 ts) ≡ y → ltb 1 (count 82 ts) ≡ z → isLast 82 ts ≡ l
+      → (x y z : Bool) → eqb (count 90 ts) 0 ≡ x → ltb 1 (count 90 ts) ≡ y → ltb 1 (count 82 ts) ≡ z
       → Given m
       (cond x (stopped NoAuthentication)
-      (cond y (stopped RepeatedAuthentication) (cond z (stopped RepeatedRelayInformation) (cond l (passed ts rest) (stopped RepeatedRelayInformation)))))
-  given-tokens h ts rest e true y z l hx hy hz hl = (no-authentication (readable m bytes ts rest e (eqb-true (count 90 ts) 0 hx)), h, omega arith)
-  given-tokens h ts rest e false y z l hx hy hz hl = by y z l hy hz hl
+      (cond y (stopped RepeatedAuthentication) (cond z (stopped RepeatedRelayInformation) (passed ts rest))))
+  given-tokens h ts rest e true y z hx hy hz = (no-authentication (readable m bytes ts rest e (eqb-true (count 90 ts) 0 hx)), h, omega arith)
+  given-tokens h ts rest e false y z hx hy hz = by y z hy hz
     where
       no-5 : Below m 6
       no-5 = nothing-more (Applies m) NoAuthentication h (λ a. elim a [ no-authentication w ↦ eqb-false (count 90 ts) 0 hx (read-as m bytes ts rest e w) ])
@@ -114,16 +93,15 @@ module _ (m : List ℕ) (bytes : Bytes m) where
       no-6 : count 90 ts ≤ 1 → Below m 7
       no-6 k = nothing-more (Applies m) RepeatedAuthentication no-5 (λ a. elim a [ repeated-authentication w ↦ omega (arith, read-as m bytes ts rest e w) ])
 
-      by : (y z l : Bool) → ltb 1 (count 90 ts) ≡ y → ltb 1 (count 82 ts) ≡ z → isLast 82 ts ≡ l
-          → Given m (cond y (stopped RepeatedAuthentication) (cond z (stopped RepeatedRelayInformation) (cond l (passed ts rest) (stopped RepeatedRelayInformation))))
-      by true z l hy hz hl = (repeated-authentication (readable m bytes ts rest e (ltb-true 1 (count 90 ts) hy)), no-5, omega arith)
-      by false true l hy hz hl =
-          (relay-wrong (readable m bytes ts rest e (inl (ltb-true 1 (count 82 ts) hz))), no-6 (ltb-false 1 (count 90 ts) hy), omega arith)
-      by false false false hy hz hl =
-          (relay-wrong (readable m bytes ts rest e (inr (not-last ts hl))), no-6 (ltb-false 1 (count 90 ts) hy), omega arith)
-      by false false true hy hz hl =
+      by : (y z : Bool) → ltb 1 (count 90 ts) ≡ y → ltb 1 (count 82 ts) ≡ z
+          → Given m (cond y (stopped RepeatedAuthentication) (cond z (stopped RepeatedRelayInformation) (passed ts rest)))
+      by true z hy hz = (repeated-authentication (readable m bytes ts rest e (ltb-true 1 (count 90 ts) hy)), no-5, omega arith)
+      by false true hy hz =
+          (repeated-relay-information (readable m bytes ts rest e (ltb-true 1 (count 82 ts) hz)), no-6 (ltb-false 1 (count 90 ts) hy), omega arith)
+      by false false hy hz =
+          let k = ltb-false 1 (count 82 ts) hz in
           nothing-more (Applies m) RepeatedRelayInformation (no-6 (ltb-false 1 (count 90 ts) hy))
-          (λ a. elim a [ relay-wrong w ↦ relay-right ts (ltb-false 1 (count 82 ts) hz) hl (read-as m bytes ts rest e w) ])
+          (λ a. elim a [ repeated-relay-information w ↦ omega (arith, read-as m bytes ts rest e w) ])
 
   given-parsed : Below m 4 → (p : Parsed) → decode (drop 240 m) ≡ p → Given m (checkedParsed p)
   unfolding checkedTokens
@@ -131,7 +109,7 @@ module _ (m : List ℕ) (bytes : Bytes m) where
       (broken-options (λ ts rest r. let f = sym e ∙ reads-decode (drop 240 m) ts rest r in let w : _≡_ {A = ℕ} 0 1 = cc in omega arith), h, omega arith)
   given-parsed h (parsed ts rest) e =
       given-tokens (nothing-more (Applies m) BrokenOptions h (λ a. elim a [ broken-options n ↦ n ts rest (reads m bytes ts rest e) ])) ts rest e
-      _ _ _ _ refl refl refl refl
+      _ _ _ refl refl refl
 
   given-sizes : (x y k : Bool) → ltb (length m) 241 ≡ x → ltb 1472 (length m) ≡ y → starts magicCookie (drop 236 m) ≡ k
       → Given m (cond x (stopped MessageSize) (cond y (stopped MessageSize) (cond k (checkedParsed (decode (drop 240 m))) (stopped WrongCookie))))
@@ -170,21 +148,22 @@ module _ (m : List ℕ) (bytes : Bytes m) (ts : List Token) (rest : List ℕ) (p
   s = split-90 p
 
   -- it is the one option 90
-  has : {P : List ℕ → List Token → Type 0} → P (s .body) (s .back) → WhereRead (Has 90 P) m
+  has : {P : List ℕ → Type 0} → P (s .body) → WhereRead (Has 90 P) m
   has g = readable m bytes ts rest (p .reads) (record { front = s .front; body = s .body; back = s .back; splits = s .tokens; holds = g })
 
-  body-of : {P : List ℕ → List Token → Type 0} → WhereRead (Has 90 P) m → (q : List Token) × P (s .body) q
+  body-of : {P : List ℕ → Type 0} → WhereRead (Has 90 P) m → P (s .body)
   body-of {P} r =
       let w = read-as m bytes ts rest (p .reads) r in
-      let z = front-none 90 ts (w .front) (w .body) (w .back) (omega (arith, p .one-90)) (w .splits) in
+      let n = ap (count 90) (w .splits) ∙ count-split 90 (w .front) (w .body) (w .back) in
+      let z : count 90 (w .front) ≡ 0 = omega (arith, p .one-90) in
       let x = sym (ap (optionOf 90) (w .splits) ∙ option-there 90 (w .front) (w .body) (w .back) z) ∙ option-at s in
       let b : w .body ≡ s .body = cc in
-      (w .back, subst (λ (b : List ℕ). P b (w .back)) b (w .holds))
+      subst P b (w .holds)
 
   no-8 : length (s .body) ≡ 11 ⊎ length (s .body) ≡ 31 → starts delayed (s .body) ≡ true → Below m 9
-  no-8 n d = nothing-more (Applies m) OtherAuthentication h (λ a. elim a [ other-form w ↦ wrong n (body-of w .1) ])
+  no-8 n d = nothing-more (Applies m) OtherAuthentication h (λ a. elim a [ other-form w ↦ wrong n (body-of w) ])
     where
-      wrong : length (s .body) ≡ 11 ⊎ length (s .body) ≡ 31 → OtherForm (s .body) [] → ⊥
+      wrong : length (s .body) ≡ 11 ⊎ length (s .body) ≡ 31 → OtherForm (s .body) → ⊥
       wrong (inl n) (inl o) = o .0 n
       wrong (inr n) (inl o) = o .1 n
       wrong n (inr o) = o (starts-true delayed (s .body) d)
@@ -196,7 +175,7 @@ module _ (m : List ℕ) (bytes : Bytes m) (ts : List Token) (rest : List ℕ) (p
       → GivenForm m (formSaid (placesOf ts) (saidFor u v d (says counter id mac)))
   given-for true v true c i x hu hv hd =
       let n = eqb-true (length (s .body)) 31 hu in
-      none-at-all m (nothing-more (Applies m) RequestForm (no-8 (inr n) hd) (λ a. elim a [ request-form w ↦ let k = body-of w .1 .0 in omega arith ]))
+      none-at-all m (nothing-more (Applies m) RequestForm (no-8 (inr n) hd) (λ a. elim a [ request-form w ↦ let k = body-of w .0 in omega arith ]))
   given-for true v false c i x hu hv hd = (other-method hd, h)
   given-for false true true c i x hu hv hd =
       let n = eqb-true (length (s .body)) 11 hv in

@@ -13,7 +13,7 @@ use Rattle.refusal.specs.declared.Refusal.the-variants.{MessageSize, WrongCooki
 use Rattle.dhcp_message.specs.Layout.{magicCookie}
 use Rattle.octets.specs.Bytes.{starts}
 use Rattle.dhcp_message.specs.Options.{Token, Parsed, broken, parsed, encode, decode}
-use Rattle.dhcp_message.specs.Message.{count, optionOf, offsetOf, isLast}
+use Rattle.dhcp_message.specs.Message.{count, optionOf, offsetOf}
 use Rattle.dhcp_message.specs.Message.{Checked, stopped, passed, checkedTokens, checkedParsed, checkedOf, Passed, Passes27, authIn, authOptionOf}
 use Rattle.dhcp_message.specs.Said.{saidBy, saidIn, saidOf, idOf, named, placesOf, formSaid, formIn, formOf}
 use Rattle.dhcp_message.specs.Image.{without, macZero, headZero, imageIn, imageOf}
@@ -29,16 +29,15 @@ pub record Passing (m : List ℕ) (ts : List Token) (rest : List ℕ) : Type 0 w
   pub reads : decode (drop 240 m) ≡ parsed ts rest
   pub one-90 : count 90 ts ≡ 1
   pub most-82 : count 82 ts ≤ 1
-  pub last-82 : isLast 82 ts ≡ true
 
 -- 5 to 7 by their tests
-abbrev pub byTests : List Token → List ℕ → Bool → Bool → Bool → Bool → Checked
-byTests ts rest x y z l =
+abbrev pub byTests : List Token → List ℕ → Bool → Bool → Bool → Checked
+byTests ts rest x y z =
     cond x (stopped NoAuthentication)
-    (cond y (stopped RepeatedAuthentication) (cond z (stopped RepeatedRelayInformation) (cond l (passed ts rest) (stopped RepeatedRelayInformation))))
+    (cond y (stopped RepeatedAuthentication) (cond z (stopped RepeatedRelayInformation) (passed ts rest)))
 
 pub by-tests : (ts : List Token) (rest : List ℕ)
-    → checkedTokens ts rest ≡ byTests ts rest (eqb (count 90 ts) 0) (ltb 1 (count 90 ts)) (ltb 1 (count 82 ts)) (isLast 82 ts)
+    → checkedTokens ts rest ≡ byTests ts rest (eqb (count 90 ts) 0) (ltb 1 (count 90 ts)) (ltb 1 (count 82 ts))
 unfolding checkedTokens
 by-tests ts rest = refl
 
@@ -49,26 +48,23 @@ Good m (passed ts rest) = Passing m ts rest
 module _ (m : List ℕ) where
   good-tokens : 241 ≤ length m → length m ≤ 1472 → starts magicCookie (drop 236 m) ≡ true
       → (ts : List Token) (rest : List ℕ) → decode (drop 240 m) ≡ parsed ts rest
-      → (x y z l : Bool) → eqb (count 90 ts) 0 ≡ x → ltb 1 (count 90 ts) ≡ y → ltb 1 (count 82 ts) ≡ z → isLast 82 ts ≡ l
-      → Good m (byTests ts rest x y z l)
-  good-tokens a b k ts rest e true y z l hx hy hz hl = tt
-  good-tokens a b k ts rest e false true z l hx hy hz hl = tt
-  good-tokens a b k ts rest e false false true l hx hy hz hl = tt
-  good-tokens a b k ts rest e false false false false hx hy hz hl = tt
-  good-tokens a b k ts rest e false false false true hx hy hz hl = record {
+      → (x y z : Bool) → eqb (count 90 ts) 0 ≡ x → ltb 1 (count 90 ts) ≡ y → ltb 1 (count 82 ts) ≡ z → Good m (byTests ts rest x y z)
+  good-tokens a b k ts rest e true y z hx hy hz = tt
+  good-tokens a b k ts rest e false true z hx hy hz = tt
+  good-tokens a b k ts rest e false false true hx hy hz = tt
+  good-tokens a b k ts rest e false false false hx hy hz = record {
     long = a;
     short = b;
     magic = k;
     reads = e;
     one-90 = once (count 90 ts) (eqb-false (count 90 ts) 0 hx) (ltb-false 1 (count 90 ts) hy);
     most-82 = ltb-false 1 (count 82 ts) hz;
-    last-82 = hl;
   }
 
   good-parsed : 241 ≤ length m → length m ≤ 1472 → starts magicCookie (drop 236 m) ≡ true → (p : Parsed) → decode (drop 240 m) ≡ p
       → Good m (checkedParsed p)
   good-parsed a b k broken e = tt
-  good-parsed a b k (parsed ts rest) e = subst (Good m) (sym (by-tests ts rest)) (good-tokens a b k ts rest e _ _ _ _ refl refl refl refl)
+  good-parsed a b k (parsed ts rest) e = subst (Good m) (sym (by-tests ts rest)) (good-tokens a b k ts rest e _ _ _ refl refl refl)
 
   good-sizes : (x y k : Bool) → ltb (length m) 241 ≡ x → ltb 1472 (length m) ≡ y → starts magicCookie (drop 236 m) ≡ k
       → Good m (cond x (stopped MessageSize) (cond y (stopped MessageSize) (cond k (checkedParsed (decode (drop 240 m))) (stopped WrongCookie))))
@@ -108,7 +104,7 @@ module _ (m : List ℕ) where
       let a : count 90 ts ≢ 0 = λ e. omega (arith, p .one-90) in
       let b : count 90 ts ≤ 1 = omega (arith, p .one-90) in
       checks-options (p .long) (p .short) (p .magic) ∙ ap checkedParsed (p .reads) ∙ by-tests ts rest
-      ∙ rw (ne-eqb _ _ a, le-ltb _ _ b, le-ltb _ _ (p .most-82), p .last-82)
+      ∙ rw (ne-eqb _ _ a, le-ltb _ _ b, le-ltb _ _ (p .most-82))
 
   pub passing-27 : {ts : List Token} {rest : List ℕ} → Passing m ts rest → Passes27 m
   passing-27 p = subst Passed (sym (checks p)) tt
@@ -161,16 +157,15 @@ module _ (m head : List ℕ) (ts : List Token) (rest : List ℕ) (is : m ≡ hea
       ∙ ap (starts magicCookie) (drop-append-le 236 head _ l)
       ∙ starts-append magicCookie (drop 236 head) _ n
 
-  pub passing-built : Codes ts → count 90 ts ≡ 1 → count 82 ts ≤ 1 → isLast 82 ts ≡ true → starts magicCookie (drop 236 head) ≡ true
+  pub passing-built : Codes ts → count 90 ts ≡ 1 → count 82 ts ≤ 1 → starts magicCookie (drop 236 head) ≡ true
       → length m ≤ 1472 → Passing m ts rest
-  passing-built cs one most last magic fits = record {
+  passing-built cs one most magic fits = record {
     long = rw (is, length-append, size, length-append) (omega arith);
     short = fits;
     magic = magic-built ∙ magic;
     reads = reads-built cs;
     one-90 = one;
     most-82 = most;
-    last-82 = last;
   }
 
 -- ---- its bytes

@@ -1,6 +1,7 @@
 -- A message in full form with the 28 bytes of its option 90 written: it is in full form at the same places, says what was written, and its
 -- image does not depend on the MAC. On tokens, its option 90 has another body of the same length. And what a message says is what its form says.
 use mathlib.Core.Path.{_≡_, refl, sym, ap, ap₂, _∙_, subst}
+use mathlib.Core.Logic.{_≢_}
 use Prim.Native.Nat.{ℕ, _+_, _^_, _≤_, _<_}
 use native.Mathlib.Omega.{arith}
 use mathlib.Core.List.{List, _∷_, _++_, append-assoc}
@@ -13,7 +14,7 @@ use Rattle.octets.proofs.HighFirst.{big-fits}
 use Rattle.refusal.specs.declared.Refusal.{Refusal}
 use Rattle.dhcp_message.specs.Layout.{delayed}
 use Rattle.dhcp_message.specs.Options.{Token, opt, encode}
-use Rattle.dhcp_message.specs.Message.{count, optionOf, tokensBefore, offsetOf, isLast, Checked, stopped, passed, checkedOf}
+use Rattle.dhcp_message.specs.Message.{count, optionOf, offsetOf, Checked, stopped, passed, checkedOf}
 use Rattle.dhcp_message.specs.Said.{Said, refused, says, saidBy, saidIn, saidOf, idOf, named}
 use Rattle.dhcp_message.specs.Said.{placesOf, authOf, formSaid, formIn, formOf, formSays, formNames, FormSays}
 use Rattle.dhcp_message.specs.Image.{without, macZero, headZero, imageOf}
@@ -23,14 +24,14 @@ use Rattle.dhcp_message.specs.declared.Auth.{Auth}
 use Rattle.dhcp_message.specs.declared.Form.{Form}
 use Rattle.dhcp_message.specs.declared.Form.the-variants.{Refused, Full}
 use Rattle.dhcp_message.proofs.Decoding.{Codes, codes-append, codes-left, codes-right}
-use Rattle.dhcp_message.proofs.Tokens.{encode-append, count-append, option-behind, before-behind, last-behind, option-there, before-there}
+use Rattle.dhcp_message.proofs.Tokens.{encode-append, count-append, option-other, before-other, option-there, before-there}
 use Rattle.dhcp_message.proofs.Tokens.{without-append, zero-append, written-body, option-at, before-at}
 use Rattle.dhcp_message.proofs.Passing.{Passing, said-in, named-in, form-in, passing-27, take-built, passing-built, header-size, header-magic, codes}
 use Rattle.dhcp_message.proofs.Passing.{form-passed, said-passed, image-passed, around, front-size}
 use Rattle.dhcp_message.proofs.FullForms.{Fully, fully, option, parts, at-is, cut-is, gap-is, counter-is, id-is, body-long, at-late, option-inside}
 use Rattle.dhcp_message.proofs.FullForms.{from-at, counter-there, id-there, said-there}
 use Rattle.dhcp_message.proofs.Covers.{covers-offsets}
-use Rattle.dhcp_message.proofs.Images.{front-82, stretch-inside, image-length, covers-full}
+use Rattle.dhcp_message.proofs.Images.{stretch-inside, image-length, covers-full}
 use Rattle.dhcp_message.proofs.Fields.{body-size, said-new, zeroed-new, fields-bytes, seal-size, counter-read, id-read, mac-read, fields-read}
 use Rattle.dhcp_message.proofs.Fields.{fields-lent, mac-lent, mac-behind, fields-alone}
 
@@ -74,29 +75,20 @@ module _ {m : List ℕ} {a : Auth} (y : Fully m a) (new : List ℕ) (size : leng
   pub out-size : length out ≡ length m
   out-size = length-written (a .at + 5) new m (omega (arith, option-inside y))
 
-  -- the counts, and whether 82 is last, go by codes; offsets go by sizes too
+  -- the counts go by codes, offsets go by sizes too
   count-same : (c : ℕ) → count c (with-body body′) ≡ count c (y .tokens)
   count-same c = count-append c front (opt 90 body′ ∷ back) ∙ sym (ap (count c) (parts y .tokens) ∙ count-append c front (opt 90 body ∷ back))
 
-  last-same : isLast 82 (with-body body′) ≡ isLast 82 (y .tokens)
-  last-same =
-      last-behind 82 (opt 90 body′ ∷ back) front (front-82 y)
-      ∙ sym (ap (isLast 82) (parts y .tokens) ∙ last-behind 82 (opt 90 body ∷ back) front (front-82 y))
+  other : _≢_ {A = ℕ} 90 82
+  other e = omega arith
 
   option-same : optionOf 82 (with-body body′) ≡ optionOf 82 (y .tokens)
-  option-same =
-      option-behind 82 (opt 90 body′ ∷ back) front (front-82 y)
-      ∙ sym (ap (optionOf 82) (parts y .tokens) ∙ option-behind 82 (opt 90 body ∷ back) front (front-82 y))
-
-  offset-82 : (b : List ℕ) → offsetOf 82 (with-body b) ≡ 240 + (length (encode front) + (2 + (length b + length (encode (tokensBefore 82 back)))))
-  offset-82 b =
-      ap (λ (us : List Token). 240 + length (encode us)) (before-behind 82 (opt 90 b ∷ back) front (front-82 y))
-      ∙ simp (encode-append, length-append) (omega arith)
+  option-same = option-other 82 90 other body′ body back front ∙ ap (optionOf 82) (sym (parts y .tokens))
 
   cut-same : offsetOf 82 (with-body body′) ≡ a .cut
   cut-same =
-      offset-82 body′ ∙ ap (λ (n : ℕ). 240 + (length (encode front) + (2 + (n + length (encode (tokensBefore 82 back)))))) same-size
-      ∙ sym (cut-is y ∙ ap (offsetOf 82) (parts y .tokens) ∙ offset-82 body)
+      ap (λ (n : ℕ). 240 + n) (before-other 82 90 other body′ body back same-size front)
+      ∙ ap (offsetOf 82) (sym (parts y .tokens)) ∙ sym (cut-is y)
 
   at-same : offsetOf 90 (with-body body′) ≡ a .at
   at-same =
@@ -109,7 +101,7 @@ module _ {m : List ℕ} {a : Auth} (y : Fully m a) (new : List ℕ) (size : leng
       let cs = subst Codes (parts y .tokens) (codes p) in
       passing-built out (take 240 m) (with-body body′) (y .rest) out-is (header-size p)
       (codes-append front (opt 90 body′ ∷ back) (codes-left front (opt 90 body ∷ back) cs) (codes-right front (opt 90 body ∷ back) cs))
-      (count-same 90 ∙ p .one-90) (subst (λ (n : ℕ). n ≤ 1) (sym (count-same 82)) (p .most-82)) (last-same ∙ p .last-82)
+      (count-same 90 ∙ p .one-90) (subst (λ (n : ℕ). n ≤ 1) (sym (count-same 82)) (p .most-82))
       (header-magic p) (subst (λ (n : ℕ). n ≤ 1472) (sym out-size) (p .short))
 
   said-bytes : saidBy (optionOf 90 (with-body body′)) ≡ says (bigAt new 0 8) (bigAt new 8 4) (drop 12 new)

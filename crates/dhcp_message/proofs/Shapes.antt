@@ -14,7 +14,7 @@ use Rattle.refusal.specs.declared.Refusal.the-variants.{NoAuthentication, Repea
 use Rattle.octets.specs.Bytes.{starts}
 use Rattle.dhcp_message.specs.Layout.{magicCookie}
 use Rattle.dhcp_message.specs.Options.{Token, Parsed, broken, parsed, encode, decode}
-use Rattle.dhcp_message.specs.Message.{count, isLast, stopped, passed, checkedTokens, checkedParsed}
+use Rattle.dhcp_message.specs.Message.{count, checkedTokens, checkedParsed}
 use Rattle.dhcp_message.specs.Said.{placesOf}
 use Rattle.dhcp_message.specs.Scan.{scanParsed, emptyTally, scanOf}
 use Rattle.dhcp_message.specs.Scan.{shapeFound, shapeIn, shapeOf}
@@ -24,9 +24,9 @@ use Rattle.dhcp_message.specs.declared.scan.Scan.the-variants.{Broken as
 use Rattle.dhcp_message.specs.declared.scan.Places.{Places}
 use Rattle.dhcp_message.specs.declared.scan.Shape.{Shape}
 use Rattle.dhcp_message.specs.declared.scan.Shape.the-variants.{Refused as SRefused, Passed as SPassed}
-use Rattle.dhcp_message.proofs.Tokens.{once, option-none, before-none, last-none}
+use Rattle.dhcp_message.proofs.Tokens.{once, option-none, before-none}
 use Rattle.dhcp_message.proofs.Turns.{head-start}
-use Rattle.dhcp_message.proofs.Found.{place, size, lastCode, resume, scan-is, place-once, size-once, code-once}
+use Rattle.dhcp_message.proofs.Found.{place, size, resume, scan-is, place-once, size-once}
 use Rattle.dhcp_message.proofs.Passing.{byTests, by-tests, shape-in, checks-short, checks-long, checks-cookie, checks-options}
 
 -- ---- checks 5 to 7
@@ -51,13 +51,9 @@ module _ (f : Tally) (e : ℕ) where
         unfolding shapeFound
         found-7 h = rw (ne-eqb _ _ h₀, le-ltb _ _ h₁, ne-eqb _ _ h₂, lt-ltb _ _ h)
 
-        pub found-last : f .n82 ≤ 1 → f .last ≡ 82 → SPassed (record { at = f .at90; cut = f .at82; gap = f .size82 }) ≡ shapeFound f e
+        pub found-one : f .n82 ≤ 1 → SPassed (record { at = f .at90; cut = f .at82; gap = f .size82 }) ≡ shapeFound f e
         unfolding shapeFound
-        found-last h l = rw (ne-eqb _ _ h₀, le-ltb _ _ h₁, ne-eqb _ _ h₂, le-ltb _ _ h, eq-eqb _ _ l)
-
-        pub found-late : f .n82 ≤ 1 → f .last ≢ 82 → SRefused RepeatedRelayInformation ≡ shapeFound f e
-        unfolding shapeFound
-        found-late h l = rw (ne-eqb _ _ h₀, le-ltb _ _ h₁, ne-eqb _ _ h₂, le-ltb _ _ h, ne-eqb _ _ l)
+        found-one h = rw (ne-eqb _ _ h₀, le-ltb _ _ h₁, ne-eqb _ _ h₂, le-ltb _ _ h)
 
 abbrev shapeScan : Scan → Shape
 shapeScan SBroken = SRefused BrokenOptions
@@ -88,37 +84,25 @@ module _ (ts : List Token) (rest : List ℕ) where
   byPass x y z w =
       cond x (SRefused NoAuthentication)
       (cond y (SRefused RepeatedAuthentication)
-      (cond z (SPassed places₀)
-      (cond w (SRefused RepeatedRelayInformation) (cond (eqb (lastCode 0 ts) 82) (SPassed places₁) (SRefused RepeatedRelayInformation)))))
+      (cond z (SPassed places₀) (cond w (SRefused RepeatedRelayInformation) (SPassed places₁))))
 
-  found-by : (x y z w l : Bool) → eqb (count 90 ts) 0 ≡ x → ltb 1 (count 90 ts) ≡ y → eqb (count 82 ts) 0 ≡ z → ltb 1 (count 82 ts) ≡ w
-      → isLast 82 ts ≡ l → byPass x y z w ≡ shapeIn (byTests ts rest x y w l)
-  found-by true y z w l hx hy hz hw hl = refl
-  found-by false true z w l hx hy hz hw hl = refl
-  found-by false false true true l hx hy hz hw hl = absurd (omega (arith, eqb-true (count 82 ts) 0 hz, ltb-true 1 (count 82 ts) hw))
-  found-by false false true false false hx hy hz hw hl =
-      let e = last-none 82 ts (eqb-true (count 82 ts) 0 hz) in
-      let z : _≡_ {A = ℕ} 0 1 = cc in
-      absurd (omega arith)
-  found-by false false true false true hx hy hz hw hl =
-      let n = eqb-false (count 90 ts) 0 hx in
-      let b = ltb-false 1 (count 90 ts) hy in
-      ap SPassed (same-places₀ (once (count 90 ts) n b) (eqb-true (count 82 ts) 0 hz))
-  found-by false false false true l hx hy hz hw hl = refl
-  found-by false false false false l hx hy hz hw hl =
-      let a = once (count 90 ts) (eqb-false (count 90 ts) 0 hx) (ltb-false 1 (count 90 ts) hy) in
-      let r = once (count 82 ts) (eqb-false (count 82 ts) 0 hz) (ltb-false 1 (count 82 ts) hw) in
-      ap (λ (t : Bool). cond t (SPassed places₁) (SRefused RepeatedRelayInformation)) (code-once 82 ts r 0 ∙ hl) ∙ by l (same-places₁ a r)
+  found-by : (x y z w : Bool) → eqb (count 90 ts) 0 ≡ x → ltb 1 (count 90 ts) ≡ y → eqb (count 82 ts) 0 ≡ z → ltb 1 (count 82 ts) ≡ w
+      → byPass x y z w ≡ shapeIn (byTests ts rest x y w)
+  found-by true y z w hx hy hz hw = refl
+  found-by false true z w hx hy hz hw = refl
+  found-by false false z w hx hy hz hw = by z w (once (count 90 ts) (eqb-false (count 90 ts) 0 hx) (ltb-false 1 (count 90 ts) hy)) hz hw
     where
-      by : (l : Bool) → places₁ ≡ placesOf ts
-          → cond l (SPassed places₁) (SRefused RepeatedRelayInformation) ≡ shapeIn (cond l (passed ts rest) (stopped RepeatedRelayInformation))
-      by true e = ap SPassed e
-      by false e = refl
+      by : (z w : Bool) → count 90 ts ≡ 1 → eqb (count 82 ts) 0 ≡ z → ltb 1 (count 82 ts) ≡ w
+          → byPass false false z w ≡ shapeIn (byTests ts rest false false w)
+      by true true a hz hw = absurd (omega (arith, eqb-true (count 82 ts) 0 hz, ltb-true 1 (count 82 ts) hw))
+      by true false a hz hw = ap SPassed (same-places₀ a (eqb-true (count 82 ts) 0 hz))
+      by false true a hz hw = refl
+      by false false a hz hw = ap SPassed (same-places₁ a (once (count 82 ts) (eqb-false (count 82 ts) 0 hz) (ltb-false 1 (count 82 ts) hw)))
 
   found-tokens : shapeFound (resume emptyTally 240 ts) (240 + length (encode ts)) ≡ shapeIn (checkedTokens ts rest)
   unfolding shapeFound
   found-tokens =
-      rw (zero-add (count 90 ts), zero-add (count 82 ts)) (found-by _ _ _ _ _ refl refl refl refl refl) ∙ ap shapeIn (sym (by-tests ts rest))
+      rw (zero-add (count 90 ts), zero-add (count 82 ts)) (found-by _ _ _ _ refl refl refl refl) ∙ ap shapeIn (sym (by-tests ts rest))
 
 shape-scan : (p : Parsed) → shapeScan (scanParsed emptyTally 240 p) ≡ shapeIn (checkedParsed p)
 shape-scan broken = refl

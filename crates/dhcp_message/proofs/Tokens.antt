@@ -6,15 +6,14 @@ use native.Mathlib.Nat.{add-assoc, zero-add}
 use mathlib.Core.Bool.{Bool, true, false, cond}
 use mathlib.Core.List.{List, [], _∷_, _++_, append-assoc}
 use native.Mathlib.Omega.{arith}
-use lib.ListN.{length}
+use lib.ListN.{length, length-append}
 use Rattle.octets.specs.Bytes.{written}
 use Rattle.octets.proofs.Written.{written-left, written-right}
 use lib.Dec.{eqb}
 use borrow.Author.Tests.{ne-eqb, eq-eqb, eqb-true}
 use Rattle.dhcp_message.specs.Options.{Token, pad, opt, encode}
-use Rattle.dhcp_message.specs.Message.{count, optionOf, tokensBefore, onlyPads, isLast}
+use Rattle.dhcp_message.specs.Message.{count, optionOf, tokensBefore}
 use Rattle.dhcp_message.specs.Image.{without, bodyZero, macZero}
-use Rattle.dhcp_message.specs.Numbers.{OnlyPads}
 
 pub once : (n : ℕ) → n ≢ 0 → n ≤ 1 → n ≡ 1
 once zero h l = absurd (h refl)
@@ -29,16 +28,6 @@ encode-append (opt e b ∷ p) q =
 pub nil-right : (ts : List Token) → ts ++ [] ≡ ts
 nil-right [] = refl
 nil-right (t ∷ ts) = ap (λ (us : List Token). t ∷ us) (nil-right ts)
-
-pub pads-true : (ts : List Token) → onlyPads ts ≡ true → OnlyPads ts
-pads-true [] h = tt
-pads-true (pad ∷ ts) h = pads-true ts h
-pads-true (opt e b ∷ ts) h = let z : _≡_ {A = ℕ} 0 1 = cc in absurd (omega arith)
-
-pub pads-false : (ts : List Token) → onlyPads ts ≡ false → OnlyPads ts → ⊥
-pads-false [] h p = let z : _≡_ {A = ℕ} 0 1 = cc in omega arith
-pads-false (pad ∷ ts) h p = pads-false ts h p
-pads-false (opt e b ∷ ts) h p = p
 
 module _ (c : ℕ) where
   pub count-append : (p q : List Token) → count c (p ++ q) ≡ count c p + count c q
@@ -66,11 +55,6 @@ module _ (c : ℕ) where
     before-behind (pad ∷ p) z = ap (λ (us : List Token). pad ∷ us) (before-behind p z)
     before-behind (opt e b ∷ p) z = let h = no-hit e p (eqb e c) refl z in rw (h .0) (ap (λ (us : List Token). opt e b ∷ us) (before-behind p (h .1)))
 
-    pub last-behind : (p : List Token) → count c p ≡ 0 → isLast c (p ++ q) ≡ isLast c q
-    last-behind [] z = refl
-    last-behind (pad ∷ p) z = last-behind p z
-    last-behind (opt e b ∷ p) z = let h = no-hit e p (eqb e c) refl z in rw (h .0) (last-behind p (h .1))
-
   -- no such option at all
   module _ (ts : List Token) (z : count c ts ≡ 0) where
     pub option-none : optionOf c ts ≡ []
@@ -79,9 +63,6 @@ module _ (c : ℕ) where
     pub before-none : tokensBefore c ts ≡ ts
     before-none = ap (tokensBefore c) (sym (nil-right ts)) ∙ before-behind [] ts z ∙ nil-right ts
 
-    pub last-none : isLast c ts ≡ true
-    last-none = ap (isLast c) (sym (nil-right ts)) ∙ last-behind [] ts z
-
   -- the first one
   module _ (p : List Token) (b : List ℕ) (q : List Token) (z : count c p ≡ 0) where
     pub option-there : optionOf c (p ++ (opt c b ∷ q)) ≡ c ∷ length b ∷ b
@@ -89,9 +70,6 @@ module _ (c : ℕ) where
 
     pub before-there : tokensBefore c (p ++ (opt c b ∷ q)) ≡ p
     before-there = before-behind (opt c b ∷ q) p z ∙ rw (eq-eqb c c refl) (nil-right p)
-
-    pub last-there : isLast c (p ++ (opt c b ∷ q)) ≡ onlyPads q
-    last-there = last-behind (opt c b ∷ q) p z ∙ rw (eq-eqb c c refl)
 
 -- tokens split at the first option of code c
 pub record Split (c : ℕ) (ts : List Token) : Type 0 where
@@ -128,19 +106,38 @@ module _ {c : ℕ} {ts : List Token} (s : Split c ts) where
   pub before-at : tokensBefore c ts ≡ s .front
   before-at = ap (tokensBefore c) (s .tokens) ∙ before-there c (s .front) (s .body) (s .back) (s .none-front)
 
-  pub last-at : isLast c ts ≡ onlyPads (s .back)
-  last-at = ap (isLast c) (s .tokens) ∙ last-there c (s .front) (s .body) (s .back) (s .none-front)
-
   pub none-back : count c ts ≤ 1 → count c (s .back) ≡ 0
   none-back h =
       let n : count c ts ≡ count c (s .front) + (1 + count c (s .back)) = ap (count c) (s .tokens) ∙ count-split c (s .front) (s .body) (s .back) in
       omega arith
 
--- only pads: no option of any code
-pub pads-none : (c : ℕ) (ts : List Token) → onlyPads ts ≡ true → count c ts ≡ 0
-pads-none c [] h = refl
-pads-none c (pad ∷ ts) h = pads-none c ts h
-pads-none c (opt e b ∷ ts) h = let z : _≡_ {A = ℕ} 0 1 = cc in absurd (omega arith)
+-- ---- another option's body
+
+-- what the option of code c is doesn't go by it, and how far that stands goes by its length alone
+module _ (c d : ℕ) (n : d ≢ c) (b b′ : List ℕ) (q : List Token) where
+  pub option-other : (p : List Token) → optionOf c (p ++ (opt d b ∷ q)) ≡ optionOf c (p ++ (opt d b′ ∷ q))
+  option-other [] = rw (ne-eqb _ _ n)
+  option-other (pad ∷ p) = option-other p
+  option-other (opt e a ∷ p) = ap (λ (x : List ℕ). cond (eqb e c) (e ∷ length a ∷ a) x) (option-other p)
+
+  abbrev far : List ℕ → List Token → ℕ
+  far x p = length (encode (tokensBefore c (p ++ (opt d x ∷ q))))
+
+  pub before-other : length b ≡ length b′ → (p : List Token) → far b p ≡ far b′ p
+  before-other l [] =
+      let r = encode (tokensBefore c q) in
+      rw (ne-eqb _ _ n) (ap (λ (k : ℕ). suc (suc k)) (length-append b r ∙ ap (λ (k : ℕ). k + length r) l ∙ sym (length-append b′ r)))
+  before-other l (pad ∷ p) = ap suc (before-other l p)
+  before-other l (opt e a ∷ p) = by (eqb e c) (before-other l p)
+    where
+      rest : List ℕ → List Token
+      rest x = tokensBefore c (p ++ (opt d x ∷ q))
+
+      by : (x : Bool) → far b p ≡ far b′ p
+          → length (encode (cond x [] (opt e a ∷ rest b))) ≡ length (encode (cond x [] (opt e a ∷ rest b′)))
+      by true ih = refl
+      by false ih =
+          ap (λ (k : ℕ). suc (suc k)) (length-append a (encode (rest b)) ∙ ap (λ (k : ℕ). length a + k) ih ∙ sym (length-append a (encode (rest b′))))
 
 -- ---- options taken out
 

@@ -11,7 +11,7 @@ use lib.Seq.{length-take-le, drop-cons, drop-drop}
 use lib.Dec.{leb, eqb}
 use borrow.Author.Tests.{le-leb, lt-leb, ne-eqb, eq-eqb, leb-true}
 use Rattle.dhcp_message.specs.Options.{pad, opt, Parsed, broken, parsed, body, option, code, withToken, step, decode}
-use Rattle.dhcp_message.specs.Scan.{leadOf, hereOf, hereAt, seen90, seen82, seenOther, seenOf, scanParsed, emptyTally, scanOf}
+use Rattle.dhcp_message.specs.Scan.{leadOf, hereOf, hereAt, seen90, seen82, seenOf, scanParsed, emptyTally, scanOf}
 use Rattle.dhcp_message.specs.declared.scan.Here.{Here}
 use Rattle.dhcp_message.specs.declared.scan.Here.the-variants.{Broken as HBroken, End as HEnd, Pad as HPad, Opt as HOpt}
 use Rattle.dhcp_message.specs.declared.scan.Tally.{Tally}
@@ -152,7 +152,7 @@ module _ (f : Tally) (c at n : ℕ) where
   unfolding seenOf
   seen-relay k h = rw (ne-eqb _ _ k, eq-eqb _ _ h)
 
-  pub seen-other : c ≢ 90 → c ≢ 82 → seenOther f c ≡ seenOf f c at n
+  pub seen-other : c ≢ 90 → c ≢ 82 → f ≡ seenOf f c at n
   unfolding seenOf
   seen-other k h = rw (ne-eqb _ _ k, ne-eqb _ _ h)
 
@@ -163,7 +163,7 @@ module _ (f : Tally) (c at n : ℕ) where
   unfolding seenOf
   seen-most = by (eqb c 90) (eqb c 82)
     where
-      by : (x y : Bool) → Most (cond x (seen90 f at) (cond y (seen82 f at n) (seenOther f c)))
+      by : (x y : Bool) → Most (cond x (seen90 f at) (cond y (seen82 f at n) f))
       by true y = omega arith
       by false true = omega arith
       by false false = omega arith

@@ -72,10 +72,11 @@ pub fn cover(message: &[u8], auth: Auth, out: &mut [u8]) -> usize
     if !covers(message.len(), out.len(), auth) {
         return 0;
     }
+    let at = image_at(auth);
     let cut = auth.cut;
     let next = cut + auth.gap;
     octets::copy(&message[..cut], out, 0);
     octets::copy(&message[next..], out, cut);
-    blank(out, image_at(auth));
+    blank(out, at);
     message.len() - auth.gap
 }

@@ -1,23 +1,35 @@
 -- `dhcp_message::cover` meets its contract: what doesn't fit is `covered-not`, the copies and the zeros are `covered` (proofs/Covers.antt).
 use mathlib.Core.Path.{sym}
+use Prim.Native.Nat.{_+_, _-_, _≤_}
 use native.Mathlib.Omega.{arith}
 use lib.ListN.{length}
 use borrow.Author.Needs.{needs}
 use denote.Ref.{now}
-use Rattle.dhcp_message.proofs.Covers.{Fits, fits-given, fits-not, covered, covered-not, PartSizes, part-sizes}
+use Rattle.dhcp_message.specs.Image.{imageAt}
+use Rattle.dhcp_message.proofs.Covers.{Fits, fits-given, fits-not, gap-before, fields-there, covered, covered-not, PartSizes, part-sizes}
 use Rattle.dhcp_message.proofs.image.cover.Statement.{statement}
 use Rattle.dhcp_message.proofs.image.cover.Tie as tie
 
 -- behind the test: the offsets lie in the message, and the room suffices
-fits : (c : tie.Else1) → let a = c .before .before .before .before .args in Fits (length (a .message .now)) (length (now (a .out))) (a .auth)
-fits c = fits-given _ _ _ _ (c .before .covers .ensures) (c .if1 .left)
+tested : (c : tie.Else1) → let a = c .before .before .before .before .args in Fits (length (a .message .now)) (length (now (a .out))) (a .auth)
+tested c = fits-given _ _ _ _ (c .before .covers .ensures) (c .if1 .left)
+
+fits : (c : tie.After-image-at) → let a = c .before .before .before .before .before .args in Fits (length (a .message .now)) (length (now (a .out))) (a .auth)
+fits c = tested (c .before)
 
 -- the sizes of the two parts that are copied
-parts : (c : tie.Else1) → let a = c .before .before .before .before .args in PartSizes (a .message .now) (a .auth)
-parts c = let a = c .before .before .before .before .args in part-sizes (a .message .now) (now (a .out)) (a .auth) (fits c)
+parts : (c : tie.After-image-at) → let a = c .before .before .before .before .before .args in PartSizes (a .message .now) (a .auth)
+parts c = let a = c .before .before .before .before .before .args in part-sizes (a .message .now) (now (a .out)) (a .auth) (fits c)
+
+-- option 90 is whole in what is left
+there : (c : tie.After-image-at) → let a = c .before .before .before .before .before .args in imageAt (a .auth) + 33 ≤ length (a .message .now) - a .auth .gap
+there c = let a = c .before .before .before .before .before .args in fields-there (a .message .now) (now (a .out)) (a .auth) (fits c)
 
 returns : tie.Need-returns
 returns c = covered-not _ _ _ (fits-not _ _ _ _ (c .before .covers .ensures) (c .if1 .taken))
+
+image-at-requires : tie.Need-image-at-requires
+image-at-requires c κs = gap-before _ _ _ (tested c)
 
 add-next : tie.Need-add-next
 add-next c = omega (arith, fits (c .before))
@@ -46,7 +58,8 @@ blank-requires : tie.Need-blank-requires
 blank-requires c κs =
     let second = c .before .before .before in
     let first = second .before .before .before .before .before in
-    omega (arith, fits (first .before .before .before .before), second .copy2 .kept .1 .0, first .copy .kept .1 .0)
+    let placed = first .before .before .before .before in
+    omega (arith, placed .image-at .ensures, there placed, fits placed .fits-room, second .copy2 .kept .1 .0, first .copy .kept .1 .0)
 
 sub-result : tie.Need-sub-result
 sub-result c =
@@ -59,9 +72,9 @@ returns-2 c =
     let blanked = c .before .before .before in
     let second = blanked .before .before .before .before in
     let first = second .before .before .before .before .before in
-    let fit = first .before .before .before .before in
-    let a = fit .before .before .before .before .args in
-    covered (now (a .message)) (now (a .out)) (a .auth) (fits fit) _ _ _ (first .copy .ensures) (second .copy2 .ensures) (blanked .blank .ensures)
+    let placed = first .before .before .before .before in
+    let a = placed .before .before .before .before .before .args in
+    covered (now (a .message)) (now (a .out)) (a .auth) (fits placed) _ _ _ _ (placed .image-at .ensures) (first .copy .ensures) (second .copy2 .ensures) (blanked .blank .ensures)
 
 pub cover-spec : {M : Type 1} → statement M
 cover-spec =
@@ -69,6 +82,7 @@ cover-spec =
     (tie.spec
     (λ c κs. search needs)
     returns
+    image-at-requires
     add-next
     slice-aggregate-copy
     copy-requires
