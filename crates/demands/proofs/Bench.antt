@@ -1,28 +1,24 @@
--- The bench examples: what the crates below computed, and how a check on Book B goes by the message's form.
+-- The bench examples: what the crates below computed, how a check on Book B goes by the message's form, and the numbers of examples 6 and 8, computed.
 use Prim.Native.Nat.{ℕ, _≤_}
 use native.Mathlib.Omega.{arith}
 use mathlib.Core.Path.{_≡_, refl, sym, ap, _∙_}
 use mathlib.Core.Logic.{_≢_, _↔_}
 use mathlib.Core.Bool.{true}
 use mathlib.Core.List.{List}
-use mathlib.Core.Option.{none, some}
-use Rattle.octets.specs.Numbers.{bigAt}
-use Rattle.dhcp_message.specs.Bench.{someMac}
-use Rattle.dhcp_message.specs.Options.{decodeAt}
-use Rattle.dhcp_message.specs.Message.{checkedOf, checkedTokens}
-use Rattle.dhcp_message.specs.Said.{refused, says, saidBy, saidOf, formOf, formNumber}
+use Rattle.dhcp_message.specs.Said.{refused, says, saidOf, formOf, formNumber}
 use Rattle.dhcp_message.proofs.Examples.{bench-examples}
-use Rattle.key_book.specs.Book.{Sound, allBelow, sized, ascending, keySizes, sound, rowOf, placeFrom, rowIn}
+use Rattle.key_book.specs.Book.{Sound, allBelow, sized, ascending, keySizes, sound}
 use Rattle.key_book.proofs.Says.{sound-says}
 use Rattle.key_book.proofs.Computed.{example-10}
 use Rattle.delayed_auth.specs.declared.Verdict.{Verdict}
 use Rattle.delayed_auth.specs.Check.{checkOf, verdictNumber}
 use Rattle.card_laws.specs.Examples.{bookB}
 use Rattle.card_laws.proofs.Computed.{example-1, example-2}
-use Rattle.demands.specs.Bench.{forgedMessage, BenchTable}
+use Rattle.demands.specs.Bench.{BenchTable}
 use Rattle.demands.proofs.Below.{said-form}
+use Rattle.demands.proofs.Computing.{computing}
 use Rattle.demands.proofs.Stages.{CheckEnd, check-unsound, check-refused, check-unknown, check-replay, check-wrong, check-accepts}
-use Rattle.demands.proofs.Stages.{check-end, end-check}
+use Rattle.demands.proofs.Stages.{check-end}
 
 b-sound : sound bookB ≡ true
 unfolding sound sized ascending keySizes allBelow
@@ -48,36 +44,15 @@ by-form m n l h v (check-replay c k mac s w g) = full-form m c (w .id) mac n 11 
 by-form m n l h v (check-wrong c k mac s w g i) = full-form m c (w .id) mac n 12 (w .form) l (λ g. omega arith)
 by-form m n l h v (check-accepts {k} {c} s a) = full-form m c (a .id) (a .mac) n 0 (a .form) l (λ g. omega arith)
 
--- ---- example 8
-
-says-8 : saidOf (forgedMessage 11 8) ≡ says 11 8 someMac
-unfolding saidOf saidBy checkedOf checkedTokens decodeAt bigAt
-says-8 = refl
-
-says-7 : saidOf (forgedMessage 10 7) ≡ says 10 7 someMac
-unfolding saidOf saidBy checkedOf checkedTokens decodeAt bigAt
-says-7 = refl
-
-row-8 : rowOf bookB 8 ≡ none
-unfolding placeFrom rowIn
-row-8 = refl
-
-row-7 : rowOf bookB 7 ≡ some 0
-unfolding placeFrom rowIn
-row-7 = refl
-
-number-8 : verdictNumber (checkOf bookB (forgedMessage 10 7)) ≡ 11
-number-8 =
-    ap verdictNumber (end-check bookB (forgedMessage 10 7) _
-    (check-replay 10 0 someMac good (record { id = 7; form = says-7; secret = row-7 }) (omega arith)))
-
 pub bench-table : BenchTable
+unfolding computing
 bench-table = record {
   example-1 = example-1;
   example-2 = example-2;
   examples-3-to-7 = bench-examples;
   on-book-B = λ m n l h. by-form m n l h (checkOf bookB m) (check-end bookB m);
-  example-8-id = ap verdictNumber (end-check bookB (forgedMessage 11 8) _ (check-unknown 11 8 someMac good says-8 row-8));
-  example-8-counter = number-8;
+  example-6 = refl;
+  example-8-id = refl;
+  example-8-counter = refl;
   example-10 = example-10;
 }

@@ -15,4 +15,5 @@ pub mod DemandSeal
 pub mod DemandDigests
 pub mod DemandCards
 pub mod Demand1
+pub mod Computing
 pub mod Bench

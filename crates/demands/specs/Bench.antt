@@ -1,11 +1,11 @@
 -- The bench examples of docs/RULES.md ('Bench examples') that are proved together, as one statement over the definitions: each is written out in the
--- crate that it belongs to, and example 8 here. Book B is the book of examples 3 to 8.
+-- crate that it belongs to, and example 8 and the number of example 6 here. Book B is the book of examples 3 to 8.
 use Prim.Native.Nat.{ℕ, _≤_}
 use mathlib.Core.Path.{_≡_}
 use mathlib.Core.Logic.{_↔_}
 use mathlib.Core.List.{List, [], _∷_, _++_}
 use Rattle.dhcp_message.specs.Said.{formOf, formNumber}
-use Rattle.dhcp_message.specs.Bench.{messageOf, fullAuth, someMac, BenchExamples}
+use Rattle.dhcp_message.specs.Bench.{messageOf, fullAuth, someMac, relayInTheMiddle, BenchExamples}
 use Rattle.key_book.specs.Examples.{Example10}
 use Rattle.delayed_auth.specs.Check.{checkOf, verdictNumber}
 use Rattle.card_laws.specs.Examples.{bookB, Example1, Example2}
@@ -24,6 +24,8 @@ pub record BenchTable : Type 0 where
   -- 3 to 7 are told of the message's form, and a check on Book B gives a number from 2 to 9 exactly where the form has it
   pub examples-3-to-7 : BenchExamples
   pub on-book-B : (m : List ℕ) (n : ℕ) → 2 ≤ n → n ≤ 9 → (numberOnB m ≡ n) ↔ (formNumber (formOf m) ≡ n)
+  -- 6 has none of them: its secret is there and its counter new, and its MAC is not right
+  pub example-6 : numberOnB relayInTheMiddle ≡ 12
   pub example-8-id : numberOnB (forgedMessage 11 8) ≡ 10
   pub example-8-counter : numberOnB (forgedMessage 10 7) ≡ 11
   pub example-10 : Example10

@@ -61,7 +61,8 @@ options-read : Reads (drop 240 distinct) options (82 ∷ 0 ∷ [])
 options-read = ((omega arith, omega arith, omega arith, (omega arith, omega arith, omega arith, (omega arith, omega arith, omega arith, tt))), refl)
 
 pub layout-pinned : LayoutPinned
-unfolding saidOf formOf checkedOf checkedTokens decodeAt scanOf seenOf saidBy imageOf coverFits imageAt coverBytes coverSize coverLeft written fieldsPut macPut be bigAt
+unfolding saidOf formOf checkedOf checkedTokens decodeAt scanOf seenOf saidBy imageOf coverFits imageAt coverBytes coverSize coverLeft written
+    fieldsPut macPut be bigAt
 layout-pinned = record {
   form = refl;
   scanned = refl;

@@ -1,14 +1,13 @@
 -- What the pass over the options finds, on tokens: counts, and of an option that is there once its offset and its size.
 use mathlib.Core.Path.{_≡_, refl, sym, ap, ap₂, _∙_}
-use mathlib.Core.Logic.{_≢_}
-use Prim.Native.Nat.{ℕ, suc, _+_, _-_}
+use Prim.Native.Nat.{ℕ, suc, _+_}
 use native.Mathlib.Nat.{add-assoc, zero-add, add-zero}
 use native.Mathlib.Omega.{arith}
 use mathlib.Core.Bool.{Bool, true, false, cond}
 use mathlib.Core.List.{List, [], _∷_, _++_}
 use lib.ListN.{length, length-append}
 use lib.Dec.{eqb}
-use borrow.Author.Tests.{ne-eqb, eq-eqb, eqb-true, eqb-false}
+use borrow.Author.Tests.{eq-eqb, eqb-true, eqb-false}
 use Rattle.dhcp_message.specs.Options.{Token, pad, opt, encode, body}
 use Rattle.dhcp_message.specs.Message.{count, optionOf, tokensBefore}
 use Rattle.dhcp_message.specs.Scan.{seenOf, scanFrom}

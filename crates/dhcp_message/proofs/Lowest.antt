@@ -2,10 +2,10 @@
 -- it applies. What the options read as is one thing, since reading undoes writing.
 use mathlib.Core.Path.{_≡_, refl, sym, ap, _∙_, subst}
 use mathlib.Core.Logic.{_⊎_, inl, inr, ⊎-elim}
-use Prim.Native.Nat.{ℕ, zero, suc, _+_, _≤_, _<_}
+use Prim.Native.Nat.{ℕ, _≤_, _<_}
 use native.Mathlib.Omega.{arith}
 use mathlib.Core.Bool.{Bool, true, false, cond}
-use mathlib.Core.List.{List, [], _∷_, _++_}
+use mathlib.Core.List.{List}
 use mathlib.Core.Option.{Option, none, some}
 use lib.ListN.{length, drop}
 use lib.Dec.{ltb, eqb}
@@ -19,7 +19,7 @@ use Rattle.refusal.specs.declared.Refusal.the-variants.{MessageSize, WrongCooki
 use Rattle.refusal.specs.declared.Refusal.the-variants.{RepeatedRelayInformation, OtherAuthentication, RequestForm}
 use Rattle.dhcp_message.specs.Layout.{magicCookie, delayed}
 use Rattle.octets.specs.Bytes.{Bytes, starts}
-use Rattle.dhcp_message.specs.Options.{Token, opt, Parsed, broken, parsed, decode, Reads}
+use Rattle.dhcp_message.specs.Options.{Token, Parsed, broken, parsed, decode, Reads}
 use Rattle.dhcp_message.specs.Message.{count, optionOf, Checked, stopped, passed, checkedTokens, checkedParsed, checkedOf, Passed}
 use Rattle.dhcp_message.specs.Said.{refused, says, saidFor, saidBy, placesOf, formSaid, formIn, formOf, formNumber}
 use Rattle.dhcp_message.specs.Numbers.{WhereRead, Has, OtherForm, LowestGiven, Applies, wrong-size}

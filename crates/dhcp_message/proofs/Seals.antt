@@ -5,7 +5,7 @@ use mathlib.Core.Logic.{_≢_}
 use Prim.Native.Nat.{ℕ, _+_, _^_, _≤_, _<_}
 use native.Mathlib.Omega.{arith}
 use mathlib.Core.List.{List, _∷_, _++_, append-assoc}
-use lib.ListN.{length, take, drop, length-append}
+use lib.ListN.{length, take, drop}
 use Rattle.octets.specs.Bytes.{Bytes, written, zeros, starts}
 use Rattle.octets.specs.Numbers.{bigAt}
 use Rattle.octets.proofs.Written.{length-written, written-over}

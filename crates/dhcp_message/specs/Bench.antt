@@ -1,6 +1,6 @@
 -- Bench examples 3 to 7 (docs/RULES.md, 'Bench examples'): from example 4 on a message is 236 zeros, the cookie and the named options. Then a
 -- message whose bytes differ, with all that is read from it and written over it as bytes, so that every offset, size and code shows.
-use Prim.Native.Nat.{ℕ, _+_}
+use Prim.Native.Nat.{ℕ}
 use mathlib.Core.Path.{_≡_}
 use mathlib.Core.Logic.{_≢_}
 use mathlib.Core.List.{List, [], _∷_, _++_}

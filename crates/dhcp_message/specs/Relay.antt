@@ -2,7 +2,7 @@
 -- keep, and that all that the rules let a relay do is permitted.
 use Prim.Native.Nat.{ℕ, _+_, _≤_}
 use mathlib.Core.Path.{_≡_}
-use mathlib.Core.List.{List, [], _∷_, _++_}
+use mathlib.Core.List.{List, _∷_, _++_}
 use lib.ListN.{length, take, drop}
 use Rattle.dhcp_message.specs.Layout.{messageMost, headerSize, hopsSize, giaddrSize, endCode, relayCode, bodyMost}
 use Rattle.octets.specs.Bytes.{Bytes}

@@ -10,7 +10,7 @@ use Rattle.refusal.specs.declared.Refusal.the-variants.{WrongMac}
 use Rattle.dhcp_message.specs.Options.{Token, opt}
 use Rattle.dhcp_message.specs.Said.{says, saidOf, named}
 use Rattle.dhcp_message.specs.Bench.{someMac}
-use Rattle.dhcp_message.specs.Relay.{replaced, removed, Permitted, unchanged, changed}
+use Rattle.dhcp_message.specs.Relay.{added, replaced, removed, Permitted, unchanged, changed}
 use Rattle.key_book.specs.Book.{Book, Sound, rowOf, keyOf}
 use Rattle.key_book.proofs.Says.{sound-says}
 use Rattle.delayed_auth.specs.declared.Verdict.the-variants.{Refused}
@@ -27,7 +27,7 @@ use Rattle.demands.proofs.Demand3.{demand-3, ids-at, sound-at, rises}
 use Rattle.demands.proofs.History.{history}
 use Rattle.worked_runs.specs.Crossed.{idA, book, changedB, authA, authB, relayInfo, otherInfo, plain, behind}
 use Rattle.worked_runs.specs.Crossed.{forged, stale, first, second, place, Crossed}
-use Rattle.worked_runs.proofs.Computing.{computing}
+use Rattle.demands.proofs.Computing.{computing}
 use Rattle.worked_runs.proofs.Network.{_and_, orderOf, before, beforeAll, inOrder, rearranged, relays}
 
 is-sound : Sound book
@@ -67,25 +67,33 @@ others-differ = record {
 
 -- ---- the messages as they were relayed
 
-change-A : Permitted (plain (authA ++ relayInfo)) (behind 1 1 (authA ++ otherInfo))
+-- taken out by one relay, and added by the next
+taken-A : Permitted (plain (authA ++ relayInfo)) (behind 3 3 authA)
 unfolding computing
-change-A =
+taken-A =
     let front : List Token = opt 90 (drop 2 authA) ∷ [] in
-    relays _ _ tt (front ++ (opt 82 (drop 2 relayInfo) ∷ [])) (front ++ (opt 82 (drop 2 otherInfo) ∷ [])) (omega arith, refl)
-    (replaced front (drop 2 relayInfo) (drop 2 otherInfo) [] (omega arith) refl refl) 1 1 (omega arith) (omega arith) refl (omega arith)
-
-change-B : Permitted (plain (authB ++ relayInfo)) (behind 2 2 authB)
-unfolding computing
-change-B =
-    let front : List Token = opt 90 (drop 2 authB) ∷ [] in
     relays _ _ tt (front ++ (opt 82 (drop 2 relayInfo) ∷ [])) front (omega arith, refl) (removed front (drop 2 relayInfo) [] refl refl)
-    2 2 (omega arith) (omega arith) refl (omega arith)
+    3 3 (omega arith) (omega arith) refl (omega arith)
 
-relayed-A : Carried (check (plain (authA ++ relayInfo))) (check (behind 1 1 (authA ++ otherInfo)))
-relayed-A = relayed (change-A .passes) (changed change-A unchanged)
+added-A : Permitted (behind 3 3 authA) (behind 1 1 (relayInfo ++ authA))
+unfolding computing
+added-A =
+    let back : List Token = opt 90 (drop 2 authA) ∷ [] in
+    relays _ _ tt back (opt 82 (drop 2 relayInfo) ∷ back) (omega arith, refl) (added [] (drop 2 relayInfo) back (omega arith) refl refl refl)
+    1 1 (omega arith) (omega arith) refl (omega arith)
 
-relayed-B : Carried (check (plain (authB ++ relayInfo))) (check (behind 2 2 authB))
-relayed-B = relayed (change-B .passes) (changed change-B unchanged)
+replaced-B : Permitted (plain (relayInfo ++ authB)) (behind 2 2 (otherInfo ++ authB))
+unfolding computing
+replaced-B =
+    let back : List Token = opt 90 (drop 2 authB) ∷ [] in
+    relays _ _ tt (opt 82 (drop 2 relayInfo) ∷ back) (opt 82 (drop 2 otherInfo) ∷ back) (omega arith, refl)
+    (replaced [] (drop 2 relayInfo) (drop 2 otherInfo) back (omega arith) refl refl) 2 2 (omega arith) (omega arith) refl (omega arith)
+
+relayed-A : Carried (check (plain (authA ++ relayInfo))) (check (behind 1 1 (relayInfo ++ authA)))
+relayed-A = relayed (taken-A .passes) (changed taken-A (changed added-A unchanged))
+
+relayed-B : Carried (check (plain (relayInfo ++ authB))) (check (behind 2 2 (otherInfo ++ authB)))
+relayed-B = relayed (replaced-B .passes) (changed replaced-B unchanged)
 
 -- ---- the checks put in are not accepted there
 

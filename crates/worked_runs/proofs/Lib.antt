@@ -1,5 +1,4 @@
 pub mod Calls
-pub mod Computing
 pub mod Network
 pub mod Shuffled
 pub mod Crossed

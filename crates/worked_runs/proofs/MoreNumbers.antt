@@ -6,8 +6,8 @@ use Rattle.book_card.specs.Reader.{frontOf, frontFrom, rowsInFront, readCard}
 use Rattle.book_card.specs.Reading.{readOf}
 use Rattle.book_card.specs.Writing.{rowsFrom, rowsOf, writeOf}
 use Rattle.worked_runs.specs.MoreNumbers.{MoreNumbers}
-use Rattle.worked_runs.proofs.Computing.{computing}
+use Rattle.demands.proofs.Computing.{computing}
 
 pub more-numbers : MoreNumbers
 unfolding computing le value littleAt recordOf rowRecord close rowRecords cardOf frontOf frontFrom rowsInFront readCard readOf rowsFrom rowsOf writeOf
-more-numbers = record { number-1 = refl; number-12 = refl; number-13 = refl; number-16 = refl; number-17 = refl }
+more-numbers = record { number-1 = refl; number-13 = refl; number-16 = refl; number-17 = refl }

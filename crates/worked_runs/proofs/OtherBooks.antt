@@ -12,7 +12,7 @@ use Rattle.demands.specs.Accepts.{Names}
 use Rattle.demands.specs.Dependence.{SameSecrets, SameInUse}
 use Rattle.worked_runs.specs.Crossed.{idA, book, changedB, authA, relayInfo, plain}
 use Rattle.worked_runs.specs.OtherBooks.{filledWith, OtherBooks}
-use Rattle.worked_runs.proofs.Computing.{computing}
+use Rattle.demands.proofs.Computing.{computing}
 use Rattle.worked_runs.proofs.Network.{_and_, each}
 use Rattle.worked_runs.proofs.Crossed.{in-row, key-A, name-A}
 

@@ -1,4 +1,4 @@
--- specs/Shuffled.antt, computed (proofs/Computing.antt): what each step answers, down to MD5 for each MAC, and the rest by proofs/Network.antt.
+-- specs/Shuffled.antt, computed (demands/proofs/Computing.antt): what each step answers, down to MD5 for each MAC, and the rest by proofs/Network.antt.
 use mathlib.Core.Path.{_≡_, refl}
 use mathlib.Core.Bool.{true}
 use mathlib.Core.List.{List, [], _∷_, _++_}
@@ -18,7 +18,7 @@ use Rattle.demands.proofs.Below.{never}
 use Rattle.demands.proofs.Stages.{check-accepts, end-check}
 use Rattle.demands.proofs.Demand3.{demand-3}
 use Rattle.worked_runs.specs.Shuffled.{book, auth7, auth8, ended, relayInfo, sentMessage, relayedMessage, toSeal, forged, first, second, place, Shuffled}
-use Rattle.worked_runs.proofs.Computing.{computing}
+use Rattle.demands.proofs.Computing.{computing}
 use Rattle.worked_runs.proofs.Network.{_and_, orderOf, before, beforeAll, inOrder, rearranged, relays}
 
 is-sound : Sound book
@@ -27,9 +27,9 @@ is-sound = sound-says book .0 refl
 
 -- ---- the messages as they were relayed
 
--- option 90 of secret 8, and option 82
+-- option 82 before option 90 of secret 8
 tokens8 : List Token
-tokens8 = opt 90 (drop 2 auth8) ∷ opt 82 (1 ∷ 1 ∷ 9 ∷ []) ∷ []
+tokens8 = opt 82 (1 ∷ 1 ∷ 9 ∷ []) ∷ opt 90 (drop 2 auth8) ∷ []
 
 change-7 : Permitted (sentMessage auth7) (relayedMessage 1 1 (auth7 ++ ended))
 unfolding computing
@@ -37,20 +37,20 @@ change-7 =
     let tokens : List Token = opt 90 (drop 2 auth7) ∷ [] in
     relays _ _ tt tokens tokens (omega arith, refl) (kept refl) 1 1 (omega arith) (omega arith) refl (omega arith)
 
-change-8 : Permitted (sentMessage auth8) (relayedMessage 1 1 (auth8 ++ relayInfo))
+change-8 : Permitted (sentMessage auth8) (relayedMessage 1 1 (relayInfo ++ (auth8 ++ ended)))
 unfolding computing tokens8
 change-8 =
-    relays _ _ tt (opt 90 (drop 2 auth8) ∷ []) tokens8 (omega arith, refl) (added (1 ∷ 1 ∷ 9 ∷ []) (omega arith) refl refl)
+    relays _ _ tt (opt 90 (drop 2 auth8) ∷ []) tokens8 (omega arith, refl) (added [] (1 ∷ 1 ∷ 9 ∷ []) (opt 90 (drop 2 auth8) ∷ []) (omega arith) refl refl refl)
     1 1 (omega arith) (omega arith) refl (omega arith)
 
-again-8 : Permitted (relayedMessage 1 1 (auth8 ++ relayInfo)) (relayedMessage 2 2 (auth8 ++ relayInfo))
+again-8 : Permitted (relayedMessage 1 1 (relayInfo ++ (auth8 ++ ended))) (relayedMessage 2 2 (relayInfo ++ (auth8 ++ ended)))
 unfolding computing tokens8
 again-8 = relays _ _ tt tokens8 tokens8 (omega arith, refl) (kept refl) 2 2 (omega arith) (omega arith) refl (omega arith)
 
 relayed-7 : Carried (check (sentMessage auth7)) (check (relayedMessage 1 1 (auth7 ++ ended)))
 relayed-7 = relayed (change-7 .passes) (changed change-7 unchanged)
 
-relayed-8 : Carried (check (sentMessage auth8)) (check (relayedMessage 2 2 (auth8 ++ relayInfo)))
+relayed-8 : Carried (check (sentMessage auth8)) (check (relayedMessage 2 2 (relayInfo ++ (auth8 ++ ended))))
 relayed-8 = relayed (change-8 .passes) (changed change-8 (changed again-8 unchanged))
 
 -- ---- the check put in is not accepted there

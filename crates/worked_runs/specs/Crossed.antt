@@ -1,7 +1,8 @@
 -- A second run of demand 3, worked out beside Shuffled, with what the rules let the network do and that one has not: seals under different
--- secrets have changed places, so have two checks that name no secret, a seal among them is refused, option 82 was replaced in one message and
--- taken out of another, and a check was put in before the first step and behind the last. The header's bytes are all different, and so are
--- those of ids and large counters. The MACs are those of an outside implementation of HMAC-MD5. Its one proof is proofs/Crossed.antt.
+-- secrets have changed places, so have two checks that name no secret, a seal among them is refused, option 82 moved from behind option 90 to
+-- before it in one message and was replaced before option 90 in another, and a check was put in before the first step and behind the last. A message
+-- with option 82 before option 90 is sealed. The header's bytes are all different, and so are those of ids and large counters. The MACs are those of
+-- an outside implementation of HMAC-MD5. Its one proof is proofs/Crossed.antt.
 use Prim.Native.Nat.{ℕ, zero, suc}
 use mathlib.Core.Path.{_≡_}
 use mathlib.Core.List.{List, [], _∷_, _++_}
@@ -85,11 +86,14 @@ unnamed = plain (53 ∷ 1 ∷ 5 ∷ [])
 abbrev pub toSeal : List ℕ
 toSeal = plain (auth (zeros 8) (zeros 4) someMac)
 
+abbrev pub relayedToSeal : List ℕ
+relayedToSeal = plain (relayInfo ++ auth (zeros 8) (zeros 4) someMac)
+
 abbrev pub sealedA : List ℕ
 sealedA = plain (auth (zeros 7 ++ (4 ∷ [])) bytesA (22 ∷ 14 ∷ 34 ∷ 138 ∷ 92 ∷ 1 ∷ 211 ∷ 117 ∷ 181 ∷ 252 ∷ 48 ∷ 44 ∷ 38 ∷ 255 ∷ 238 ∷ 50 ∷ []))
 
 abbrev pub sealedB : List ℕ
-sealedB = plain (auth (17 ∷ 18 ∷ 19 ∷ 20 ∷ 21 ∷ 22 ∷ 24 ∷ 0 ∷ []) bytesB
+sealedB = plain (relayInfo ++ auth (17 ∷ 18 ∷ 19 ∷ 20 ∷ 21 ∷ 22 ∷ 24 ∷ 0 ∷ []) bytesB
     (139 ∷ 133 ∷ 198 ∷ 134 ∷ 78 ∷ 121 ∷ 191 ∷ 205 ∷ 199 ∷ 95 ∷ 151 ∷ 130 ∷ 84 ∷ 215 ∷ 158 ∷ 164 ∷ []))
 
 -- what is put in: a counter above the stored one with a wrong MAC, and an old counter
@@ -103,13 +107,13 @@ stale = plain (auth (zeros 7 ++ (10 ∷ [])) bytesA someMac)
 
 abbrev pub first : List Step
 first =
-    seal idA toSeal ∷ seal idB toSeal ∷ seal 9 toSeal ∷ check short ∷ check unnamed
-    ∷ check (plain (authA ++ relayInfo)) ∷ check (plain (authB ++ relayInfo)) ∷ []
+    seal idA toSeal ∷ seal idB relayedToSeal ∷ seal 9 toSeal ∷ check short ∷ check unnamed
+    ∷ check (plain (authA ++ relayInfo)) ∷ check (plain (relayInfo ++ authB)) ∷ []
 
 abbrev pub second : List Step
 second =
-    check forged ∷ check unnamed ∷ check short ∷ seal idB toSeal ∷ check (behind 2 2 authB) ∷ seal 9 toSeal
-    ∷ check (behind 1 1 (authA ++ otherInfo)) ∷ seal idA toSeal ∷ check stale ∷ []
+    check forged ∷ check unnamed ∷ check short ∷ seal idB relayedToSeal ∷ check (behind 2 2 (otherInfo ++ authB)) ∷ seal 9 toSeal
+    ∷ check (behind 1 1 (relayInfo ++ authA)) ∷ seal idA toSeal ∷ check stale ∷ []
 
 abbrev pub place : ℕ → ℕ
 place zero = 7

@@ -1,5 +1,5 @@
 -- A second run of demand 3, worked out: neither `Rearranged` nor acceptance is empty. Two secrets; in the second run their checks have changed
--- places and gone past the seal, both messages were relayed, one twice and with option 82 added, and a forged check was put in.
+-- places and gone past the seal, both messages were relayed, one twice and with option 82 put before option 90, and a forged check was put in.
 -- The MACs are those of an outside implementation of HMAC-MD5. Its one proof is proofs/Shuffled.antt.
 use Prim.Native.Nat.{ℕ, zero, suc}
 use mathlib.Core.Path.{_≡_}
@@ -28,9 +28,9 @@ auth8 = fullAuth 1 20 8 (55 ∷ 249 ∷ 179 ∷ 157 ∷ 219 ∷ 248 ∷ 59 ∷ 1
 abbrev pub ended : List ℕ
 ended = 255 ∷ []
 
--- option 82 right before End
+-- an option 82
 abbrev pub relayInfo : List ℕ
-relayInfo = 82 ∷ 3 ∷ 1 ∷ 1 ∷ 9 ∷ ended
+relayInfo = 82 ∷ 3 ∷ 1 ∷ 1 ∷ 9 ∷ []
 
 -- the messages as they were sent, and behind relays: hops and the last byte of giaddr
 abbrev pub sentMessage : List ℕ → List ℕ
@@ -55,7 +55,7 @@ first = check (sentMessage auth7) ∷ check (sentMessage auth8) ∷ seal 7 toSea
 
 abbrev pub second : List Step
 second =
-    seal 7 toSeal ∷ check forged ∷ check (relayedMessage 2 2 (auth8 ++ relayInfo)) ∷ check (relayedMessage 1 1 (auth7 ++ ended))
+    seal 7 toSeal ∷ check forged ∷ check (relayedMessage 2 2 (relayInfo ++ (auth8 ++ ended))) ∷ check (relayedMessage 1 1 (auth7 ++ ended))
     ∷ check (sentMessage auth7) ∷ []
 
 abbrev pub place : ℕ → ℕ

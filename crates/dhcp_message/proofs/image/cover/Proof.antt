@@ -74,7 +74,8 @@ returns-2 c =
     let first = second .before .before .before .before .before in
     let placed = first .before .before .before .before in
     let a = placed .before .before .before .before .before .args in
-    covered (now (a .message)) (now (a .out)) (a .auth) (fits placed) _ _ _ _ (placed .image-at .ensures) (first .copy .ensures) (second .copy2 .ensures) (blanked .blank .ensures)
+    covered (now (a .message)) (now (a .out)) (a .auth) (fits placed) _ _ _ _
+    (placed .image-at .ensures) (first .copy .ensures) (second .copy2 .ensures) (blanked .blank .ensures)
 
 pub cover-spec : {M : Type 1} → statement M
 cover-spec =

@@ -26,4 +26,6 @@ returns-7 : tie.Need-returns-7
 returns-7 c = fits-behind _ _ _ (search needs) (search needs) (search needs) (search needs) (search needs) (search needs)
 
 pub covers-spec : {M : Type 1} → statement M
-covers-spec = tie.close (tie.spec returns returns-2 (λ c. search needs) returns-3 returns-4 returns-5 (λ c. search needs) returns-6 (λ c. search needs) returns-7)
+covers-spec =
+    tie.close
+    (tie.spec returns returns-2 (λ c. search needs) returns-3 returns-4 returns-5 (λ c. search needs) returns-6 (λ c. search needs) returns-7)

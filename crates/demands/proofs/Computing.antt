@@ -1,4 +1,5 @@
--- What the worked runs are computed with: `unfolding computing` opens every definition from a check and a seal down to MD5 and the bytes of a message.
+-- What bench examples and worked runs are computed with: `unfolding computing` opens every definition from a check and a seal down to MD5 and the
+-- bytes of a message.
 use Prim.Native.Nat.{ℕ}
 use Rattle.octets.specs.Bytes.{written, filled}
 use Rattle.octets.specs.Numbers.{le, value, littleAt, be, bigAt}
