@@ -124,7 +124,7 @@ LIBRARY = {
     for path, names in {
         "mathlib.Core.Path": "_≡_",
         "mathlib.Core.Logic": "_↔_ _≢_ _⊎_",
-        "mathlib.Core.Bool": "Bool true false cond _&&_",
+        "mathlib.Core.Bool": "Bool true false cond _&&_ _||_",
         "mathlib.Core.Option": "Option none some Option·getD",
         "mathlib.Core.List": "List [] _∷_ _++_ map",
         "Prim.Native.Nat": "ℕ zero suc _+_ _-_ _*_ _/_ _%_ _^_ _<_ _≤_",
@@ -140,7 +140,7 @@ CONSTRUCTORS = set("true false none some [] _∷_ zero suc".split())
 LENT = set("now _×_ × ⌜_⌝ Unit ⊥ Type → .entry .exit .ptr".split())
 
 # The operators of LIBRARY that bind tighter than an equation.
-TIGHT = set("+ - * / % ^ ++ ∷ &&".split())
+TIGHT = set("+ - * / % ^ ++ ∷ && ||".split())
 RELATIONS = ("≡", "≤", "↔")
 # The words of antt that give a name a meaning inside a term.
 BINDERS = (":", "λ", "∀", "let", "do", "←", "elim")
