@@ -9,7 +9,7 @@ use compare::outside::{judge, repository_file, run, run_well, run_within, Folder
 use compare::random::Random;
 use reference::card::{card_of_rows, rows_of_book, Row};
 use reference::examples::{accepted_by_b, message_with, refused_by_b, CARD_B, CARD_EMPTY};
-use reference::{check, card_read, Book};
+use reference::{card_read, check, Book};
 use std::fs;
 use std::io::Write;
 use std::path::PathBuf;
