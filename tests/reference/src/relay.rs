@@ -49,7 +49,7 @@ pub fn relayed(message: &[u8], change: &RelayChange) -> Option<Vec<u8>> {
 }
 
 /// Code, length and body; None where the body doesn't fit a length byte.
-pub fn option_82(body: &[u8]) -> Option<Vec<u8>> {
+fn option_82(body: &[u8]) -> Option<Vec<u8>> {
     let length = u8::try_from(body.len()).ok()?;
     Some([&[RELAY_AGENT, length][..], body].concat())
 }
