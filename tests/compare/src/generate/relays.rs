@@ -81,8 +81,11 @@ mod tests {
     }
 
     #[test]
-    fn option_82_comes_to_every_place() {
-        let relayed: Vec<Vec<u8>> = sample().into_iter().map(|(_, after)| after).collect();
+    fn option_82_is_added_at_every_place() {
+        let has_82 = |message: &[u8]| situations::place_and_body(message).is_some();
+        let mut sample = sample();
+        sample.retain(|(before, _)| !has_82(before));
+        let relayed: Vec<Vec<u8>> = sample.into_iter().map(|(_, after)| after).collect();
         situations::require_each(&relayed);
         situations::require_every_place(&relayed);
     }
@@ -90,7 +93,7 @@ mod tests {
     /// Each kind of change comes up, moves often: in one message of ten.
     #[test]
     fn option_82_is_added_replaced_moved_and_taken_out() {
-        let [mut added, mut replaced, mut moved, mut taken_out, mut filled] = [0; 5];
+        let [mut added, mut replaced, mut moved, mut taken_out] = [0; 4];
         let sample = sample();
         for (before, after) in &sample {
             let now = situations::place_and_body(after);
@@ -101,26 +104,33 @@ mod tests {
                 (Some((_, old)), Some((_, new))) if old != new => replaced += 1,
                 _ => {}
             }
-            let longer = after.len() > before.len();
-            filled += usize::from(longer && after.len() == MESSAGE_MOST);
         }
-        let counts = [added, replaced, taken_out, filled];
-        assert!(counts.iter().all(|count| *count > 0), "{counts:?}");
+        let counts = [added, replaced, moved, taken_out];
+        assert!(counts.iter().all(|count| *count > 100), "{counts:?}");
         assert!(moved > sample.len() / 10, "{moved} moved");
     }
 
-    /// Bodies are drawn that bring the message to 1,473 bytes, which is no permitted change.
+    /// The length of a message after a change of option 82, permitted or not; None where that adds
+    /// no byte of a body.
+    fn length_after(message: &[u8], option_82: &Option82) -> Option<usize> {
+        let body_there = situations::place_and_body(message).map_or(0, |(_, body)| body.len());
+        match option_82 {
+            Option82::Add { body, .. } => Some(message.len() + 2 + body.len()),
+            Option82::Replace(body) => Some(message.len() - body_there + body.len()),
+            _ => None,
+        }
+    }
+
+    /// Changes that make just 1,472 bytes are often drawn, and are permitted; so are changes that
+    /// make one byte more, and are not.
     #[test]
-    fn a_byte_above_1472_is_drawn_and_not_permitted() {
+    fn changes_up_to_1472_bytes_and_a_byte_above() {
         let mut random = Random::new(9);
-        let [mut added, mut replaced] = [0; 2];
+        let [mut full, mut above] = [0; 2];
         for (message, _) in sample() {
             let option_82 = any(&mut random, &message);
-            let there = situations::place_and_body(&message).map_or(0, |(_, body)| body.len());
-            let (length, count) = match &option_82 {
-                Option82::Add { body, .. } => (message.len() + 2 + body.len(), &mut added),
-                Option82::Replace(body) => (message.len() - there + body.len(), &mut replaced),
-                _ => continue,
+            let Some(length) = length_after(&message, &option_82) else {
+                continue;
             };
             let change = RelayChange {
                 hops: 1,
@@ -129,8 +139,9 @@ mod tests {
             };
             let permitted = relayed(&message, &change).is_some();
             assert_eq!(permitted, length <= MESSAGE_MOST, "{length} bytes");
-            *count += usize::from(length == MESSAGE_MOST + 1);
+            full += usize::from(length == MESSAGE_MOST);
+            above += usize::from(length == MESSAGE_MOST + 1);
         }
-        assert!(added > 0 && replaced > 0, "{added} and {replaced}");
+        assert!(full > 40 && above > 40, "{full} and {above}");
     }
 }
