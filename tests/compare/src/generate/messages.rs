@@ -367,23 +367,6 @@ fn spoil_parts(random: &mut Random, draft: &mut Draft, fault: Fault) {
             draft.has_end = false;
             draft.after_end.fill(PAD);
         }
-        Fault::NoAuthentication => {
-            draft.take_authentication();
-        }
-        Fault::AuthenticationInBody => {
-            if let Some(part) = draft.take_authentication() {
-                let mut body = vec![];
-                part.write(&mut body);
-                draft.parts.insert(0, Part::Option { code: 43, body });
-            }
-        }
-        Fault::AuthenticationAfterEnd => {
-            if let Some(part) = draft.take_authentication() {
-                let mut bytes = vec![];
-                part.write(&mut bytes);
-                draft.after_end = bytes;
-            }
-        }
         Fault::TwoAuthentications => {
             let second = match random.below(2) {
                 0 => authentication(random),
@@ -401,26 +384,56 @@ fn spoil_parts(random: &mut Random, draft: &mut Draft, fault: Fault) {
             }
         }
         Fault::RelayAgentAbove1472 => fill_up(random, draft),
-        Fault::AuthenticationLength => {
+        _ => {
+            hide_authentication(draft, fault);
             if let Some(body) = draft.authentication() {
-                let length = match random.below(2) {
-                    0 => random.pick(&[0, 1, 2, 3, 10, 12, 30, 32, 255]),
-                    _ => random.within(0..=255),
-                };
-                body.resize(length, 0);
+                spoil_authentication(random, body, fault);
             }
+        }
+    }
+}
+
+/// Takes option 90 out; it is nowhere then, or where reading must not find it.
+fn hide_authentication(draft: &mut Draft, fault: Fault) {
+    let hidden = [
+        Fault::NoAuthentication,
+        Fault::AuthenticationInBody,
+        Fault::AuthenticationAfterEnd,
+    ];
+    if !hidden.contains(&fault) {
+        return;
+    }
+    let Some(part) = draft.take_authentication() else {
+        return;
+    };
+    let mut bytes = vec![];
+    part.write(&mut bytes);
+    match fault {
+        Fault::AuthenticationInBody => {
+            let body = bytes;
+            draft.parts.insert(0, Part::Option { code: 43, body });
+        }
+        Fault::AuthenticationAfterEnd => draft.after_end = bytes,
+        _ => {}
+    }
+}
+
+fn spoil_authentication(random: &mut Random, body: &mut Vec<u8>, fault: Fault) {
+    match fault {
+        Fault::AuthenticationLength => {
+            let length = match random.below(2) {
+                0 => random.pick(&[0, 1, 2, 3, 10, 12, 30, 32, 255]),
+                _ => random.within(0..=255),
+            };
+            body.resize(length, 0);
         }
         Fault::ProtocolNumbers => {
             let at = random.below(3);
-            if let Some(byte) = draft.authentication().and_then(|body| body.get_mut(at)) {
+            if let Some(byte) = body.get_mut(at) {
                 *byte ^= 1 << random.below(8);
             }
         }
-        Fault::RequestForm => {
-            if let Some(body) = draft.authentication() {
-                body.truncate(REQUEST_LENGTH);
-            }
-        }
+        Fault::RequestForm => body.truncate(REQUEST_LENGTH),
         _ => {}
     }
 }
@@ -587,6 +600,7 @@ mod tests {
             assert!(refused > 200, "{fault:?}: {refused} of 500 refused");
         }
     }
+
     /// Messages for some book, each with this wrong.
     fn sample(faults: &[Fault]) -> Vec<Vec<u8>> {
         let mut random = Random::new(7);

@@ -31,7 +31,7 @@ fn after(random: &mut Random, message: Vec<u8>, option_82: Option82) -> Vec<u8> 
     relayed(&message, &change).unwrap_or(message)
 }
 
-/// A change of option 82 that goes with the message, but that a body may be too long for it.
+/// A change that goes with the option 82 the message has or doesn't have. Its body may be too long.
 fn any(random: &mut Random, message: &[u8]) -> Option82 {
     let (Ok(found), Some(places)) = (shape(message), places(message)) else {
         return Option82::Leave;
@@ -49,8 +49,8 @@ fn any(random: &mut Random, message: &[u8]) -> Option82 {
     }
 }
 
-/// A body. With one of as many bytes as there is room for the message has 1,472 bytes, with one more
-/// the change is not permitted.
+/// A body. One that takes all the room there is brings the message to 1,472 bytes; one of a byte more
+/// makes a change that is not permitted.
 fn body(random: &mut Random, room: usize) -> Vec<u8> {
     let length = match random.below(10) {
         0 => 0,
@@ -110,8 +110,7 @@ mod tests {
         assert!(moved > sample.len() / 10, "{moved} moved");
     }
 
-    /// The length of a message after a change of option 82, permitted or not; None where that adds
-    /// no byte of a body.
+    /// The length of a message after a change that brings a body, permitted or not.
     fn length_after(message: &[u8], option_82: &Option82) -> Option<usize> {
         let body_there = situations::place_and_body(message).map_or(0, |(_, body)| body.len());
         match option_82 {

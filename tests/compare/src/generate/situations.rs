@@ -55,6 +55,7 @@ fn places_of(code: u8, codes: &[u8]) -> Vec<usize> {
 
 type Situation = (&'static str, fn(&Seen) -> bool);
 
+/// How the one option 82 stands in a message.
 const SITUATIONS: [Situation; 13] = [
     ("first of all", |seen| seen.place == 0),
     ("right before option 90", |seen| {
@@ -111,9 +112,10 @@ pub fn place_and_body(message: &[u8]) -> Option<(usize, &[u8])> {
     Seen::new(message).map(|seen| (seen.place, seen.body))
 }
 
-/// Options 82 and the one option 90, by their places among the codes.
 type Repeated = (&'static str, fn(&[usize], usize) -> bool);
 
+/// How several options 82 stand in a message: by their places, and that of the one option 90, among
+/// the codes.
 const REPEATED: [Repeated; 7] = [
     ("two", |relay_agents, _| relay_agents.len() == 2),
     ("three", |relay_agents, _| relay_agents.len() == 3),
