@@ -63,15 +63,18 @@ static void free_book(struct book book)
 
 #define LENT(book) (book).ids, 2, (book).lengths, 2, (book).store, 128, (book).received, 2, (book).sent, 2
 
-/* 236 zeros, the cookie, an option 90 in full form, option 82 with four bytes, and End. */
-static void make_message(uint8_t message[280])
+/* 236 zeros, the cookie, option 90 in full form and option 82 with four bytes, at these two places, and End. */
+static void make_message(uint8_t message[280], size_t authentication_at, size_t relay_agent_at)
 {
-    static const uint8_t start[] = {99, 130, 83, 99, 90, 31, 1, 1, 0};
-    static const uint8_t end[] = {82, 4, 1, 2, 3, 4, 255};
+    static const uint8_t cookie[] = {99, 130, 83, 99};
+    static const uint8_t authentication[] = {90, 31, 1, 1, 0};
+    static const uint8_t relay_agent[] = {82, 4, 1, 2, 3, 4};
 
     memset(message, 0, 280);
-    memcpy(message + 236, start, sizeof start);
-    memcpy(message + 273, end, sizeof end);
+    memcpy(message + 236, cookie, sizeof cookie);
+    memcpy(message + authentication_at, authentication, sizeof authentication);
+    memcpy(message + relay_agent_at, relay_agent, sizeof relay_agent);
+    message[279] = 255;
 }
 
 static void digests(void)
@@ -170,19 +173,32 @@ static void cards(struct book book)
     free(card);
 }
 
-int main(void)
+/* Every function that takes a message, with options 90 and 82 at these two places of it. */
+static void messages(size_t authentication_at, size_t relay_agent_at)
 {
     uint8_t plain[280];
+    size_t behind = authentication_at + 33;
+    struct book book = book_of_two();
     uint8_t *message;
+
+    make_message(plain, authentication_at, relay_agent_at);
+    message = block_of(plain, 280);
+    seal_key_and_check(book, message);
+    EXPECT(memcmp(message, plain, authentication_at + 5) == 0);
+    EXPECT(memcmp(message + behind, plain + behind, 280 - behind) == 0);
+    cut_messages(book, message);
+    free(message);
+    free_book(book);
+}
+
+int main(void)
+{
     struct book book = book_of_two();
 
-    make_message(plain);
-    message = block_of(plain, 280);
     digests();
-    seal_key_and_check(book, message);
-    cut_messages(book, message);
+    messages(240, 273);
+    messages(246, 240);
     cards(book);
-    free(message);
     free_book(book);
     return 0;
 }

@@ -8,8 +8,10 @@ use compare::harness::{for_each_case, same, Tally};
 use compare::outside::{judge, repository_file, run, run_well, run_within, Folder};
 use compare::random::Random;
 use reference::card::{card_of_rows, rows_of_book, Row};
-use reference::examples::{accepted_by_b, message_with, refused_by_b, CARD_B, CARD_EMPTY};
-use reference::{check, card_read, Book};
+use reference::examples::{
+    accepted_by_b, accepted_by_b_with_82, message_with, refused_by_b, CARD_B, CARD_EMPTY,
+};
+use reference::{card_read, check, Book};
 use std::fs;
 use std::io::Write;
 use std::path::PathBuf;
@@ -92,7 +94,16 @@ fn accepted() {
     assert_eq!(judged_in(&folder), "accepted row 0 counter 11\n");
 }
 
-/// Refusals 2, 3, 4, 5, 7, 8, 9, 10, 11 and 12: bench examples 3 to 9.
+/// Bench example 6 with the right MAC, and its option 82 at other places.
+#[test]
+fn accepted_with_option_82() {
+    for message in accepted_by_b_with_82() {
+        let line = judged_files(&CARD_B, &message);
+        assert_eq!(line, "accepted row 0 counter 11\n");
+    }
+}
+
+/// Refusals 2, 3, 4, 5, 8, 9, 10, 11 and 12: bench examples 3 to 9.
 #[test]
 fn refused_bench_examples() {
     for example in refused_by_b() {
@@ -109,6 +120,15 @@ fn refused_6() {
     let option_90 = &message[240..273];
     let twice = message_with(&[option_90, option_90, &[255]].concat());
     assert_eq!(judged_files(&CARD_B, &twice), "refused 6\n");
+}
+
+/// Refusal 7, of messages that have no fault but a second option 82.
+#[test]
+fn refused_7() {
+    for mut message in accepted_by_b_with_82() {
+        message.splice(240..240, [82, 0]);
+        assert_eq!(judged_files(&CARD_B, &message), "refused 7\n");
+    }
 }
 
 #[test]

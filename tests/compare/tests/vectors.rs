@@ -3,7 +3,8 @@
 
 use compare::runs::lend;
 use reference::examples::{
-    accepted_by_b, book_b, hex, refused_by_b, rfc_2202, CARD_B, CARD_EMPTY, RFC_1321,
+    accepted_by_b, accepted_by_b_with_82, book_b, hex, refused_by_b, rfc_2202, CARD_B, CARD_EMPTY,
+    RFC_1321,
 };
 use reference::Book;
 use rimemagpie::{c, Accepted, Refusal};
@@ -76,6 +77,18 @@ fn examples_3_to_9_refused() {
         let number = answer.map_err(|refusal| refusal.number());
         assert_eq!(number, Err(example.number), "{}", example.name);
         assert_eq!(book, book_b(), "{}", example.name);
+    }
+}
+
+/// Example 6 with the right MAC is accepted, and so it is with option 82 at its other places.
+#[test]
+fn example_6_put_right() {
+    let accepted = Accepted {
+        row: 0,
+        counter: 11,
+    };
+    for message in accepted_by_b_with_82() {
+        assert_eq!(lend(&mut book_b()).check(&message), Ok(accepted));
     }
 }
 

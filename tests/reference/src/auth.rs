@@ -105,6 +105,24 @@ mod tests {
         assert_eq!(check(&mut book, &message), Err(Refusal::Replay));
     }
 
+    /// The 28 bytes are those of option 90 where it stands in the message, with option 82 before it
+    /// or behind it, and are the same with both.
+    #[test]
+    fn a_seal_goes_by_the_place_of_90_in_the_message() {
+        let bare = plain();
+        let mut sealed_bare = bare.clone();
+        assert_eq!(seal(&mut book_b(), 7, &mut sealed_bare), Ok(4));
+        for (at, o) in [(240, 245), (273, 240)] {
+            let mut message = bare.clone();
+            message.splice(at..at, [82, 3, 90, 31, 1]);
+            let before = message.clone();
+            assert_eq!(seal(&mut book_b(), 7, &mut message), Ok(4));
+            assert_eq!(message[..o + 5], before[..o + 5]);
+            assert_eq!(message[o + 5..o + 33], sealed_bare[245..273]);
+            assert_eq!(message[o + 33..], before[o + 33..]);
+        }
+    }
+
     #[test]
     fn seal_refuses_an_unknown_id_and_a_spent_counter() {
         let mut book = book_b();

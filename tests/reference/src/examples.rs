@@ -142,7 +142,8 @@ pub struct CheckExample {
 }
 
 /// Bench examples 3 to 9, but for the message put right. (Of example 3, 1,472 bytes pass number 2:
-/// they are zeros here, so that the cookie is what differs.)
+/// they are zeros here, so that the cookie is what differs. Example 6 passes number 7: it has id 7,
+/// counter 11 and a wrong MAC here, so that the MAC is what differs.)
 pub fn refused_by_b() -> Vec<CheckExample> {
     let example = |name, number, message| CheckExample {
         name,
@@ -168,7 +169,7 @@ pub fn refused_by_b() -> Vec<CheckExample> {
         ),
         example(
             "6: 90, 82, 53, End",
-            7,
+            12,
             with(&[&auth, &[RELAY_AGENT, 1, 9, 53, 1, 5, 255]]),
         ),
         example("7: request form", 9, with(&[&request, &[255]])),
@@ -195,4 +196,22 @@ pub fn accepted_by_b() -> Vec<u8> {
 /// id 7, sixteen zeros and End.
 const ACCEPTED_MAC: [u8; 16] = [
     0xee, 0x98, 0xf4, 0xdb, 0xee, 0x5b, 0xeb, 0x3f, 0x0c, 0x40, 0x06, 0xa8, 0x69, 0x30, 0x26, 0x69,
+];
+
+/// Options 90, 53 and End, id 7 and counter 11, with an option 82 before each of the three in turn:
+/// B accepts them all. The second is bench example 6 with the right MAC.
+pub fn accepted_by_b_with_82() -> Vec<Vec<u8>> {
+    let mut message = message_with(&[&full_option_90(7, 11)[..], &[53, 1, 5, 255]].concat());
+    message[240 + 17..240 + 33].copy_from_slice(&ACCEPTED_MAC_WITH_53);
+    let with_82 = |at| {
+        let mut message = message.clone();
+        message.splice(at..at, [RELAY_AGENT, 1, 9]);
+        message
+    };
+    [240, 273, 276].map(with_82).to_vec()
+}
+
+/// As above, of the same bytes with option 53 of body 5 before End, by the same command.
+const ACCEPTED_MAC_WITH_53: [u8; 16] = [
+    0xf0, 0x39, 0x05, 0x27, 0xd7, 0x64, 0x60, 0x18, 0xea, 0xc3, 0x38, 0xd7, 0xb6, 0xd5, 0x9b, 0x6b,
 ];

@@ -88,26 +88,22 @@ pub fn shape(message: &[u8]) -> Result<Shape, Refusal> {
     if message[COOKIE_AT..COOKIE_AT + 4] != COOKIE {
         return Err(Refusal::WrongCookie);
     }
-    let (options, end_at) = read_options(message).ok_or(Refusal::BrokenOptions)?;
-    let authentications = of_code(&options, AUTHENTICATION);
+    let places = places(message).ok_or(Refusal::BrokenOptions)?;
+    let authentications = of_code(message, &places, AUTHENTICATION);
     if authentications.is_empty() {
         return Err(Refusal::NoAuthentication);
     }
     if authentications.len() > 1 {
         return Err(Refusal::RepeatedAuthentication);
     }
-    let relay_agents = of_code(&options, RELAY_AGENT);
+    let relay_agents = of_code(message, &places, RELAY_AGENT);
     if relay_agents.len() > 1 {
-        return Err(Refusal::RepeatedRelayInformation);
-    }
-    let relay_agent = relay_agents.first().copied();
-    if relay_agent.is_some() && relay_agent != options.last().copied() {
         return Err(Refusal::RepeatedRelayInformation);
     }
     Ok(Shape {
         authentication: authentications[0],
-        relay_agent,
-        end_at,
+        relay_agent: relay_agents.first().copied(),
+        end_at: places[places.len() - 1],
     })
 }
 
@@ -128,34 +124,42 @@ pub fn full_form(message: &[u8]) -> Result<Shape, Refusal> {
     Ok(shape)
 }
 
-/// The options before the first End, pads left out, and the offset of that End. None where an
-/// option passes the message's end or there is no End.
-fn read_options(message: &[u8]) -> Option<(Vec<OptionAt>, usize)> {
-    let mut options = Vec::new();
+/// Where the options and pads before the first End begin, in their order, and behind them where that
+/// End stands. None where an option passes the message's end or there is no End.
+pub fn places(message: &[u8]) -> Option<Vec<usize>> {
+    let mut places = Vec::new();
     let mut at = OPTIONS_AT;
     loop {
-        let code = *message.get(at)?;
-        if code == END {
-            return Some((options, at));
-        }
-        if code == PAD {
-            at += 1;
-            continue;
-        }
-        let length = usize::from(*message.get(at + 1)?);
-        let option = OptionAt { code, at, length };
-        message.get(option.whole())?;
-        at = option.whole().end;
-        options.push(option);
+        places.push(at);
+        at = match *message.get(at)? {
+            END => return Some(places),
+            PAD => at + 1,
+            _ => option_at(message, at)?.whole().end,
+        };
     }
 }
 
-fn of_code(options: &[OptionAt], code: u8) -> Vec<OptionAt> {
-    options.iter().copied().filter(|o| o.code == code).collect()
+/// The option whose code is at an offset. None where it passes the message's end.
+pub fn option_at(message: &[u8], at: usize) -> Option<OptionAt> {
+    let code = *message.get(at)?;
+    let length = usize::from(*message.get(at + 1)?);
+    let option = OptionAt { code, at, length };
+    message.get(option.whole())?;
+    Some(option)
+}
+
+/// The options of a code among what stands at these places.
+fn of_code(message: &[u8], places: &[usize], code: u8) -> Vec<OptionAt> {
+    places
+        .iter()
+        .filter(|at| message[**at] == code)
+        .filter_map(|at| option_at(message, *at))
+        .collect()
 }
 
 /// The covered image of a message in full form: hops, giaddr and the MAC zero, the whole of option
-/// 82 taken out, the rest in its order (RFC 3118, sections 3 and 5.3).
+/// 82 taken out wherever it stands, the rest in its order (RFC 3118, sections 3 and 5.3). The MAC is
+/// found by its place in the message, so it is zeroed before anything in front of it is taken out.
 pub fn covered_image(message: &[u8], shape: &Shape) -> Vec<u8> {
     let mut image = message.to_vec();
     image[HOPS_AT] = 0;
@@ -195,40 +199,66 @@ mod tests {
     }
 
     #[test]
-    fn only_pads_between_82_and_end() {
+    fn one_82_passes_at_any_place_and_two_are_refused() {
         let auth = full_option_90(7, 11);
-        let last = [&auth[..], &[82, 1, 9, 0, 0, 255]].concat();
-        assert_eq!(number_given(&last), 0);
-        let before_90 = [&[82, 1, 9][..], &auth, &[255]].concat();
-        assert_eq!(number_given(&before_90), 7);
-        let twice = [&auth[..], &[82, 0, 82, 0, 255]].concat();
-        assert_eq!(number_given(&twice), 7);
+        let relay_agent = [82, 1, 9];
+        let parts = [&[0][..], &auth, &[53, 1, 5], &[0]];
+        for first in 0..=parts.len() {
+            let mut one = parts.to_vec();
+            one.insert(first, &relay_agent);
+            assert_eq!(number_given(&[&one.concat()[..], &[255]].concat()), 0);
+            for second in 0..=one.len() {
+                let mut two = one.clone();
+                two.insert(second, &[82, 0]);
+                assert_eq!(number_given(&[&two.concat()[..], &[255]].concat()), 7);
+            }
+        }
+        let second_after_end = [&auth[..], &relay_agent, &[255], &relay_agent].concat();
+        assert_eq!(number_given(&second_after_end), 0);
+        let second_in_a_body = [&auth[..], &relay_agent, &[43, 3], &relay_agent, &[255]].concat();
+        assert_eq!(number_given(&second_in_a_body), 0);
     }
 
     #[test]
     fn the_lowest_number_is_given() {
-        let no_90_and_82_first = [82, 0, 53, 0, 255];
-        assert_eq!(number_given(&no_90_and_82_first), 5);
+        let no_90_and_two_82 = [82, 0, 53, 0, 82, 0, 255];
+        assert_eq!(number_given(&no_90_and_two_82), 5);
         let two_90_and_two_82 = [90, 0, 82, 0, 90, 0, 82, 0, 255];
         assert_eq!(number_given(&two_90_and_two_82), 6);
-        let length_3_after_82 = [82, 0, 90, 3, 1, 1, 0, 255];
-        assert_eq!(number_given(&length_3_after_82), 7);
+        let length_3_between_two_82 = [82, 0, 90, 3, 1, 1, 0, 82, 0, 255];
+        assert_eq!(number_given(&length_3_between_two_82), 7);
+        let length_3_behind_one_82 = [82, 0, 90, 3, 1, 1, 0, 255];
+        assert_eq!(number_given(&length_3_behind_one_82), 8);
     }
 
     #[test]
-    fn image_has_82_taken_out_and_only_the_mac_of_90_zero() {
-        let options = [&full_option_90(7, 11)[..], &[0, 82, 2, 8, 9, 0, 255, 4]].concat();
-        let mut message = message_with(&options);
-        message[HOPS_AT] = 3;
-        message[GIADDR].copy_from_slice(&[1, 2, 3, 4]);
-        let shape = full_form(&message).unwrap();
-        let image = covered_image(&message, &shape);
+    fn places_are_where_options_pads_and_end_begin() {
+        let message = message_with(&[0, 82, 2, 255, 0, 53, 0, 0, 255, 53, 0, 255]);
+        assert_eq!(places(&message), Some(vec![240, 241, 245, 247, 248]));
+        assert_eq!(places(&message_with(&[255])), Some(vec![240]));
+        assert_eq!(places(&message_with(&[53, 1, 255])), None);
+        assert_eq!(places(&message_with(&[53, 2, 255])), None);
+        assert_eq!(places(&message_with(&[0, 53])), None);
+    }
 
-        let mut expected = message_with(&[]);
-        expected.extend_from_slice(&full_option_90(7, 11)[..17]);
-        expected.extend_from_slice(&[0; 16]);
-        expected.extend_from_slice(&[0, 0, 255, 4]);
-        assert_eq!(image, expected);
-        assert_eq!(image.len(), message.len() - 4);
+    /// Option 82 is taken out before option 90, behind it, and between pads, and of option 90 only
+    /// the MAC is zero.
+    #[test]
+    fn image_has_82_taken_out_at_its_place_and_only_the_mac_of_90_zero() {
+        let auth = full_option_90(7, 11);
+        let after = [0, 0, 53, 1, 5, 255, 4];
+        let mut expected = message_with(&[&[12, 1, 82][..], &auth, &after].concat());
+        expected[243 + 17..243 + 33].fill(0);
+        let relay_agent = [82, 2, 8, 9];
+        for at in [240, 243, 276, 277, 278, 281] {
+            let mut message = message_with(&[&[12, 1, 82][..], &auth, &after].concat());
+            message[HOPS_AT] = 3;
+            message[GIADDR].copy_from_slice(&[1, 2, 3, 4]);
+            message.splice(at..at, relay_agent);
+            let shape = full_form(&message).unwrap();
+            let image = covered_image(&message, &shape);
+            assert_eq!(image, expected, "82 at {at}");
+            assert_eq!(image.len(), message.len() - (2 + 2));
+        }
     }
 }

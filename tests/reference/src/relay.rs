@@ -1,8 +1,9 @@
 //! Permitted relay changes (docs/RULES.md, 'Relay changes'; RFC 3118, section 3, and RFC 3046).
 
-use crate::message::{shape, GIADDR, HOPS_AT, MESSAGE_MOST, RELAY_AGENT};
+use crate::message::{places, shape, GIADDR, HOPS_AT, MESSAGE_MOST, RELAY_AGENT};
 
-/// What a relay does to a message: it sets hops and giaddr, and may do one thing to option 82.
+/// What a relay does to a message: it sets hops and giaddr, and may do one thing to option 82. To
+/// move option 82 takes two changes: one takes it out, the next adds it elsewhere.
 #[derive(Clone, Debug, PartialEq, Eq)]
 pub struct RelayChange {
     pub hops: u8,
@@ -13,16 +14,19 @@ pub struct RelayChange {
 #[derive(Clone, Debug, PartialEq, Eq)]
 pub enum Option82 {
     Leave,
-    /// Right before End, where there is none yet.
-    Add(Vec<u8>),
-    /// Another body for the one there.
+    /// Right before the option, pad or End that begins at an offset, where there is no 82 yet.
+    Add {
+        at: usize,
+        body: Vec<u8>,
+    },
+    /// Another body for the one there, which stays where it is.
     Replace(Vec<u8>),
     TakeOut,
 }
 
 /// The message after a relay change. None where the change is not permitted: the message fails one
-/// of numbers 2 to 7, option 82 is not as the change wants it, its body is too long, or the result
-/// is above 1,472 bytes.
+/// of numbers 2 to 7, option 82 is not as the change wants it, nothing begins at the offset where it
+/// is to be added, its body is too long, or the result is above 1,472 bytes.
 pub fn relayed(message: &[u8], change: &RelayChange) -> Option<Vec<u8>> {
     let found = shape(message).ok()?;
     let mut result = message.to_vec();
@@ -30,8 +34,8 @@ pub fn relayed(message: &[u8], change: &RelayChange) -> Option<Vec<u8>> {
     result[GIADDR].copy_from_slice(&change.giaddr);
     match (&change.option_82, found.relay_agent) {
         (Option82::Leave, _) => {}
-        (Option82::Add(body), None) => {
-            result.splice(found.end_at..found.end_at, option_82(body)?);
+        (Option82::Add { at, body }, None) if places(message)?.contains(at) => {
+            result.splice(*at..*at, option_82(body)?);
         }
         (Option82::Replace(body), Some(there)) => {
             result.splice(there.whole(), option_82(body)?);
@@ -64,33 +68,77 @@ mod tests {
         }
     }
 
-    /// Adding, replacing and taking out option 82 leave the covered image as it was.
+    fn add(at: usize, body: &[u8]) -> RelayChange {
+        let body = body.to_vec();
+        change(Option82::Add { at, body })
+    }
+
+    /// Options 12, 90 (at 244) and 53, pads between them, End at 282, and bytes after it.
+    fn without_82() -> Vec<u8> {
+        let auth = full_option_90(7, 11);
+        message_with(&[&[12, 1, 90, 0][..], &auth, &[0, 0, 53, 1, 5, 255, 0, 255]].concat())
+    }
+
+    /// Adding option 82 at any place, replacing its body, moving it and taking it out leave the
+    /// covered image as it was.
     #[test]
     fn image_stays() {
-        let bare = message_with(&[&full_option_90(7, 11)[..], &[0, 255, 1, 2]].concat());
+        let bare = without_82();
         let image = |message: &[u8]| covered_image(message, &shape(message).unwrap());
-        let added = relayed(&bare, &change(Option82::Add(vec![1, 2, 3]))).unwrap();
-        let replaced = relayed(&added, &change(Option82::Replace(vec![]))).unwrap();
-        let taken_out = relayed(&replaced, &change(Option82::TakeOut)).unwrap();
-        assert_eq!(added.len(), bare.len() + 5);
-        assert_eq!(replaced.len(), bare.len() + 2);
-        for message in [&added, &replaced, &taken_out] {
-            assert_eq!(image(message), image(&bare));
+        for at in places(&bare).unwrap() {
+            let added = relayed(&bare, &add(at, &[1, 2, 3])).unwrap();
+            assert_eq!(added.len(), bare.len() + 5);
+            assert_eq!(added[at..at + 5], [82, 3, 1, 2, 3]);
+            let replaced = relayed(&added, &change(Option82::Replace(vec![]))).unwrap();
+            assert_eq!(replaced.len(), bare.len() + 2);
+            assert_eq!(replaced[at..at + 2], [82, 0]);
+            let taken_out = relayed(&replaced, &change(Option82::TakeOut)).unwrap();
+            let moved = relayed(&taken_out, &add(244, &[1, 2, 3])).unwrap();
+            for message in [&added, &replaced, &taken_out, &moved] {
+                assert_eq!(image(message), image(&bare));
+                assert_eq!(message[HOPS_AT], 9);
+                assert_eq!(message[GIADDR], [10, 0, 0, 1]);
+            }
         }
     }
 
     #[test]
+    fn option_82_is_added_where_an_option_a_pad_or_end_begins() {
+        let bare = without_82();
+        let permitted: Vec<usize> = (0..=bare.len() + 1)
+            .filter(|at| relayed(&bare, &add(*at, &[7])).is_some())
+            .collect();
+        assert_eq!(permitted, [240, 243, 244, 277, 278, 279, 282]);
+    }
+
+    #[test]
     fn changes_that_are_not_permitted() {
-        let bare = message_with(&[&full_option_90(7, 11)[..], &[255]].concat());
-        let with_82 = relayed(&bare, &change(Option82::Add(vec![]))).unwrap();
+        let bare = without_82();
         assert_eq!(relayed(&bare, &change(Option82::TakeOut)), None);
         assert_eq!(relayed(&bare, &change(Option82::Replace(vec![]))), None);
-        assert_eq!(relayed(&with_82, &change(Option82::Add(vec![]))), None);
-        assert_eq!(relayed(&bare, &change(Option82::Add(vec![0; 256]))), None);
+        assert_eq!(relayed(&bare, &add(240, &[0; 256])), None);
         assert_eq!(relayed(&bare[..240], &change(Option82::Leave)), None);
-        let mut long = bare.clone();
-        long.resize(1_470, 0);
-        assert!(relayed(&long, &change(Option82::Add(vec![]))).is_some());
-        assert_eq!(relayed(&long, &change(Option82::Add(vec![0]))), None);
+        let with_82 = relayed(&bare, &add(244, &[])).unwrap();
+        for at in places(&with_82).unwrap() {
+            assert_eq!(relayed(&with_82, &add(at, &[])), None);
+        }
+        let mut with_two = with_82.clone();
+        with_two.splice(240..240, [82, 0]);
+        assert_eq!(relayed(&with_two, &change(Option82::TakeOut)), None);
+    }
+
+    /// At every place, an option 82 that makes 1,472 bytes is permitted and one byte more isn't.
+    #[test]
+    fn the_result_has_at_most_1472_bytes() {
+        let mut long = without_82();
+        long.resize(1_470 - 9, 0);
+        for at in places(&long).unwrap() {
+            let full = relayed(&long, &add(at, &[5; 9])).unwrap();
+            assert_eq!(full.len(), 1_472);
+            assert_eq!(relayed(&long, &add(at, &[5; 10])), None);
+            let replaced = |length| relayed(&full, &change(Option82::Replace(vec![5; length])));
+            assert!(replaced(9).is_some());
+            assert_eq!(replaced(10), None);
+        }
     }
 }

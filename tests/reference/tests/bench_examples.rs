@@ -1,9 +1,11 @@
 //! The bench examples of docs/RULES.md, by number, on the second implementation. (Example 9's
 //! program is run by the tests beside the library.)
 
-use reference::examples::{accepted_by_b, book_b, refused_by_b, CARD_B, CARD_EMPTY};
+use reference::examples::{
+    accepted_by_b, accepted_by_b_with_82, book_b, refused_by_b, CARD_B, CARD_EMPTY,
+};
 use reference::refusal::number_of;
-use reference::{check, card_read, card_write, Accepted, Book, Refusal};
+use reference::{card_read, card_write, check, Accepted, Book, Refusal};
 
 /// Room for some rows, all bytes and numbers 0.
 fn room_for(n: usize) -> Book {
@@ -44,6 +46,18 @@ fn examples_3_to_9_refused() {
         let answer = check(&mut book, &example.message);
         assert_eq!(number_of(&answer), example.number, "{}", example.name);
         assert_eq!(book, book_b(), "{}", example.name);
+    }
+}
+
+/// Example 6 with the right MAC is accepted, and so it is with option 82 at its other places.
+#[test]
+fn example_6_put_right() {
+    let accepted = Accepted {
+        row: 0,
+        counter: 11,
+    };
+    for message in accepted_by_b_with_82() {
+        assert_eq!(check(&mut book_b(), &message), Ok(accepted));
     }
 }
 

@@ -5,8 +5,8 @@ use super::relays;
 use crate::random::Random;
 use reference::auth::sign;
 use reference::message::{
-    full_form, shape, AUTHENTICATION, COOKIE, COOKIE_AT, DELAYED_HMAC_MD5, END, FULL_LENGTH,
-    MESSAGE_LEAST, MESSAGE_MOST, OPTIONS_AT, PAD, RELAY_AGENT, REQUEST_LENGTH,
+    full_form, places, shape, AUTHENTICATION, COOKIE, COOKIE_AT, DELAYED_HMAC_MD5, END,
+    FULL_LENGTH, MESSAGE_LEAST, MESSAGE_MOST, OPTIONS_AT, PAD, RELAY_AGENT, REQUEST_LENGTH,
 };
 use reference::Book;
 
@@ -123,7 +123,7 @@ impl Draft {
 }
 
 /// A well-formed draft: other options and pads, option 90 in full form somewhere among them, perhaps
-/// option 82 with pads after it, End, and bytes after End.
+/// option 82 somewhere too, End, and bytes after End.
 fn draft(random: &mut Random) -> Draft {
     loop {
         let mut draft = Draft {
@@ -148,11 +148,26 @@ fn parts(random: &mut Random) -> Vec<Part> {
     }
     let at = random.within(0..=parts.len());
     parts.insert(at, authentication(random));
-    if random.one_in(3) {
-        parts.push(relay_agent(random));
-        parts.extend(vec![Part::Pad; random.pick(&[0, 0, 1, 3])]);
+    if random.one_in(2) {
+        add_relay_agent(random, &mut parts, at);
     }
     parts
+}
+
+/// Puts option 82 among the parts: anywhere, between two pads of its own, or right before or behind
+/// option 90, whose place is given.
+fn add_relay_agent(random: &mut Random, parts: &mut Vec<Part>, authentication: usize) {
+    let anywhere = random.within(0..=parts.len());
+    let at = match random.below(8) {
+        0 => authentication,
+        1 => authentication + 1,
+        2 => {
+            parts.splice(anywhere..anywhere, [Part::Pad, Part::Pad]);
+            anywhere + 1
+        }
+        _ => anywhere,
+    };
+    parts.insert(at, relay_agent(random));
 }
 
 fn header(random: &mut Random) -> Vec<u8> {
@@ -211,12 +226,14 @@ fn relay_agent(random: &mut Random) -> Part {
     }
 }
 
-/// Bytes after End: often none, sometimes as many as there is room for.
+/// Bytes after End: often none, sometimes as many as there is room for, or so many that an option 82
+/// brings the message to its largest size.
 fn after_end(random: &mut Random, left: usize) -> Vec<u8> {
-    let length = match random.below(8) {
+    let length = match random.below(9) {
         0..=2 => 0,
         3 => left,
         4 => random.within(0..=left),
+        5 => left.saturating_sub(random.within(2..=257)),
         _ => random.within(0..=left.min(40)),
     };
     let mut bytes = random.bytes(length);
@@ -240,7 +257,7 @@ pub enum Fault {
     AuthenticationAfterEnd,
     TwoAuthentications,
     TwoRelayAgents,
-    RelayAgentNotLast,
+    RelayAgentAbove1472,
     AuthenticationLength,
     ProtocolNumbers,
     RequestForm,
@@ -264,7 +281,7 @@ impl Fault {
         Fault::AuthenticationAfterEnd,
         Fault::TwoAuthentications,
         Fault::TwoRelayAgents,
-        Fault::RelayAgentNotLast,
+        Fault::RelayAgentAbove1472,
         Fault::AuthenticationLength,
         Fault::ProtocolNumbers,
         Fault::RequestForm,
@@ -350,23 +367,6 @@ fn spoil_parts(random: &mut Random, draft: &mut Draft, fault: Fault) {
             draft.has_end = false;
             draft.after_end.fill(PAD);
         }
-        Fault::NoAuthentication => {
-            draft.take_authentication();
-        }
-        Fault::AuthenticationInBody => {
-            if let Some(part) = draft.take_authentication() {
-                let mut body = vec![];
-                part.write(&mut body);
-                draft.parts.insert(0, Part::Option { code: 43, body });
-            }
-        }
-        Fault::AuthenticationAfterEnd => {
-            if let Some(part) = draft.take_authentication() {
-                let mut bytes = vec![];
-                part.write(&mut bytes);
-                draft.after_end = bytes;
-            }
-        }
         Fault::TwoAuthentications => {
             let second = match random.below(2) {
                 0 => authentication(random),
@@ -378,35 +378,74 @@ fn spoil_parts(random: &mut Random, draft: &mut Draft, fault: Fault) {
             insert_anywhere(random, draft, second);
         }
         Fault::TwoRelayAgents => {
-            draft.parts.push(relay_agent(random));
-            draft.parts.push(relay_agent(random));
-        }
-        Fault::RelayAgentNotLast => {
-            draft.parts.retain(|part| !part.has_code(RELAY_AGENT));
-            draft.parts.insert(0, relay_agent(random));
-        }
-        Fault::AuthenticationLength => {
-            if let Some(body) = draft.authentication() {
-                let length = match random.below(2) {
-                    0 => random.pick(&[0, 1, 2, 3, 10, 12, 30, 32, 255]),
-                    _ => random.within(0..=255),
-                };
-                body.resize(length, 0);
+            for _ in 0..2 {
+                let part = relay_agent(random);
+                insert_anywhere(random, draft, part);
             }
+        }
+        Fault::RelayAgentAbove1472 => fill_up(random, draft),
+        _ => {
+            hide_authentication(draft, fault);
+            if let Some(body) = draft.authentication() {
+                spoil_authentication(random, body, fault);
+            }
+        }
+    }
+}
+
+/// Takes option 90 out; it is nowhere then, or where reading must not find it.
+fn hide_authentication(draft: &mut Draft, fault: Fault) {
+    let hidden = [
+        Fault::NoAuthentication,
+        Fault::AuthenticationInBody,
+        Fault::AuthenticationAfterEnd,
+    ];
+    if !hidden.contains(&fault) {
+        return;
+    }
+    let Some(part) = draft.take_authentication() else {
+        return;
+    };
+    let mut bytes = vec![];
+    part.write(&mut bytes);
+    match fault {
+        Fault::AuthenticationInBody => {
+            let body = bytes;
+            draft.parts.insert(0, Part::Option { code: 43, body });
+        }
+        Fault::AuthenticationAfterEnd => draft.after_end = bytes,
+        _ => {}
+    }
+}
+
+fn spoil_authentication(random: &mut Random, body: &mut Vec<u8>, fault: Fault) {
+    match fault {
+        Fault::AuthenticationLength => {
+            let length = match random.below(2) {
+                0 => random.pick(&[0, 1, 2, 3, 10, 12, 30, 32, 255]),
+                _ => random.within(0..=255),
+            };
+            body.resize(length, 0);
         }
         Fault::ProtocolNumbers => {
             let at = random.below(3);
-            if let Some(byte) = draft.authentication().and_then(|body| body.get_mut(at)) {
+            if let Some(byte) = body.get_mut(at) {
                 *byte ^= 1 << random.below(8);
             }
         }
-        Fault::RequestForm => {
-            if let Some(body) = draft.authentication() {
-                body.truncate(REQUEST_LENGTH);
-            }
-        }
+        Fault::RequestForm => body.truncate(REQUEST_LENGTH),
         _ => {}
     }
+}
+
+/// Takes option 82 out and puts so many bytes after End that an option 82 can bring the message to
+/// one byte above its largest size.
+fn fill_up(random: &mut Random, draft: &mut Draft) {
+    draft.parts.retain(|part| !part.has_code(RELAY_AGENT));
+    draft.after_end.clear();
+    let most = MESSAGE_MOST + 1 - random.within(2..=257);
+    let left = most.saturating_sub(draft.bytes().len());
+    draft.after_end = random.bytes(left);
 }
 
 fn insert_anywhere(random: &mut Random, draft: &mut Draft, part: Part) {
@@ -477,6 +516,7 @@ fn spoil_bytes(random: &mut Random, message: &mut Vec<u8>, fault: Fault) {
             }
         }
         Fault::LengthPastEnd => lengthen_last_option(random, message),
+        Fault::RelayAgentAbove1472 => add_relay_agent_above_1472(random, message),
         Fault::MacBit => {
             if let Ok(found) = full_form(message) {
                 let at = found.mac().start + random.below(16);
@@ -494,20 +534,41 @@ fn spoil_bytes(random: &mut Random, message: &mut Vec<u8>, fault: Fault) {
 /// Lets the last option reach to the message's very end, so that there is no End, or past it.
 fn lengthen_last_option(random: &mut Random, message: &mut Vec<u8>) {
     let Ok(found) = shape(message) else { return };
-    let last = found.relay_agent.unwrap_or(found.authentication);
+    let last = last_option(message);
     message.truncate(found.end_at + 1);
-    let to_the_end = message.len() - last.at - 2;
+    let to_the_end = message.len() - last - 2;
     if to_the_end <= 255 {
         let any = random.within(to_the_end..=255);
-        message[last.at + 1] = random.pick(&[to_the_end, any]) as u8;
+        message[last + 1] = random.pick(&[to_the_end, any]) as u8;
+    }
+}
+
+/// Where the last option begins, of a message that has one and an End.
+fn last_option(message: &[u8]) -> usize {
+    let places = places(message).expect("there is an End");
+    let is_option = |at: &usize| ![PAD, END].contains(&message[*at]);
+    let last = places.into_iter().rev().find(is_option);
+    last.expect("there is an option")
+}
+
+/// Adds an option 82, before any option, pad or End, that brings the message to one byte above its
+/// largest size, where an option 82 can be so long.
+fn add_relay_agent_above_1472(random: &mut Random, message: &mut Vec<u8>) {
+    let length = (MESSAGE_MOST + 1).checked_sub(message.len() + 2);
+    if let (Some(places), Some(length @ 0..=255)) = (places(message), length) {
+        let at = random.pick(&places);
+        let mut option = vec![RELAY_AGENT, length as u8];
+        option.extend(random.bytes(length));
+        message.splice(at..at, option);
     }
 }
 
 #[cfg(test)]
 mod tests {
     use super::*;
-    use crate::generate::books;
+    use crate::generate::{books, situations};
     use reference::check;
+    use reference::refusal::number_of;
 
     /// Where there is a row that can still accept, a well-formed message is accepted.
     #[test]
@@ -538,5 +599,69 @@ mod tests {
             }
             assert!(refused > 200, "{fault:?}: {refused} of 500 refused");
         }
+    }
+
+    /// Messages for some book, each with this wrong.
+    fn sample(faults: &[Fault]) -> Vec<Vec<u8>> {
+        let mut random = Random::new(7);
+        let book = books::with_rows(&mut random, 1, 1);
+        (0..5_000)
+            .map(|_| with_faults(&mut random, &book, faults))
+            .collect()
+    }
+
+    #[test]
+    fn option_82_comes_up_at_every_place() {
+        let messages = sample(&[]);
+        situations::require_each(&messages);
+        situations::require_every_place(&messages);
+    }
+
+    /// With more than one option 82, wherever they stand, the number is 7.
+    #[test]
+    fn repeated_options_82_come_up_at_every_place() {
+        let messages = sample(&[Fault::TwoRelayAgents]);
+        let (fit, too_long): (Vec<_>, Vec<_>) = messages
+            .into_iter()
+            .partition(|message| message.len() <= MESSAGE_MOST);
+        assert!(fit.len() > too_long.len());
+        assert!(fit.iter().all(|message| number_of(&shape(message)) == 7));
+        situations::require_each_repeated(&fit);
+        assert!(too_long
+            .iter()
+            .all(|message| number_of(&shape(message)) == 2));
+    }
+
+    /// One option 82 that makes 1,473 bytes comes up at every place, and the number is 2.
+    #[test]
+    fn option_82_a_byte_above_1472_comes_up_at_every_place() {
+        let mut messages = sample(&[Fault::RelayAgentAbove1472]);
+        messages.retain(|message| message.len() == MESSAGE_MOST + 1);
+        assert!(messages
+            .iter()
+            .all(|message| number_of(&shape(message)) == 2));
+        situations::require_every_place(&messages);
+    }
+
+    /// Whichever option is the last, lengthening it breaks the options.
+    #[test]
+    fn the_last_option_is_lengthened() {
+        let mut random = Random::new(10);
+        let [mut relay_agents, mut authentications, mut others] = [0; 3];
+        for message in sample(&[]) {
+            let mut longer = message.clone();
+            lengthen_last_option(&mut random, &mut longer);
+            if places(&longer).is_some() {
+                continue;
+            }
+            assert_eq!(number_of(&shape(&longer)), 4);
+            match message[last_option(&message)] {
+                RELAY_AGENT => relay_agents += 1,
+                AUTHENTICATION => authentications += 1,
+                _ => others += 1,
+            }
+        }
+        let counts = [relay_agents, authentications, others];
+        assert!(counts.iter().all(|count| *count > 100), "{counts:?}");
     }
 }

@@ -4,3 +4,5 @@ pub mod books;
 pub mod cards;
 pub mod messages;
 pub mod relays;
+#[cfg(test)]
+mod situations;
