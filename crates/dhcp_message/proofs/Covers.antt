@@ -20,12 +20,16 @@ use Rattle.dhcp_message.proofs.Headers.{head-left, head-length}
 
 -- ---- the test
 
--- what it means
+-- option 90 lies wholly before the stretch or behind its end
+abbrev pub Apart : Auth → Type 0
+Apart a = (a .at + 33 ≤ a .cut) ⊎ (a .cut + a .gap ≤ a .at)
+
+-- what the test means
 pub record Fits (size room : ℕ) (a : Auth) : Type 0 where
   pub stretch : a .cut + a .gap ≤ size
   pub fits-room : size - a .gap ≤ room
   pub inside : a .at + 33 ≤ size
-  pub apart : (a .at + 33 ≤ a .cut) ⊎ (a .cut + a .gap ≤ a .at)
+  pub apart : Apart a
 
 either : (x y : Bool) → (x || y) ≡ true → (x ≡ true) ⊎ (y ≡ true)
 either true y h = inl refl
@@ -89,7 +93,7 @@ module _ (size room : ℕ) (a : Auth) where
   unfolding coverFits
   fits-all f = rw (le-leb _ _ (f .stretch), le-leb _ _ (f .fits-room), le-leb _ _ (f .inside)) (by (f .apart))
     where
-      by : (a .at + 33 ≤ a .cut) ⊎ (a .cut + a .gap ≤ a .at) → (leb (a .at + 33) (a .cut) || leb (a .cut + a .gap) (a .at)) ≡ true
+      by : Apart a → (leb (a .at + 33) (a .cut) || leb (a .cut + a .gap) (a .at)) ≡ true
       by (inl h) = rw (le-leb _ _ h)
       by (inr h) = rw (le-leb _ _ h) (or-true (leb (a .at + 33) (a .cut)))
 
@@ -143,7 +147,7 @@ module _ (m d : List ℕ) (a : Auth) (f : Fits (length m) (length d) a) where
   pub fields-there : imageAt a + 33 ≤ length m - a .gap
   fields-there = by (f .apart)
     where
-      by : (a .at + 33 ≤ a .cut) ⊎ (a .cut + a .gap ≤ a .at) → imageAt a + 33 ≤ length m - a .gap
+      by : Apart a → imageAt a + 33 ≤ length m - a .gap
       by (inl h) = omega (arith, image-before a (omega arith), f .stretch)
       by (inr h) = omega (arith, image-behind a (omega arith), f .inside)
 

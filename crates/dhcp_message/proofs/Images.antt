@@ -1,7 +1,7 @@
 -- The covered image: what `cover` writes for a message in full form is its image. Taking out option 82 moves option 90 where that stands behind it;
 -- `Stands` says where to, for either order.
 use mathlib.Core.Path.{_≡_, refl, sym, ap, ap₂, _∙_}
-use mathlib.Core.Logic.{_≢_, _⊎_, inl, inr}
+use mathlib.Core.Logic.{_≢_, inl, inr}
 use Prim.Native.Nat.{ℕ, zero, suc, _+_, _-_, _≤_}
 use native.Mathlib.Nat.{add-zero}
 use native.Mathlib.Omega.{arith}
@@ -20,7 +20,7 @@ use Rattle.dhcp_message.proofs.Tokens.{zero-append, zero-none, written-
 use Rattle.dhcp_message.proofs.Passing.{Passing, whole, header-size, image-passed, around, front-size, inside}
 use Rattle.dhcp_message.proofs.FullForms.{Fully, parts, at-is, cut-is, gap-is, body-long, option-inside}
 use Rattle.dhcp_message.proofs.Headers.{head-left, head-length}
-use Rattle.dhcp_message.proofs.Covers.{Fits, image-before, image-behind, cover-bytes, cover-length, cover-fitting}
+use Rattle.dhcp_message.proofs.Covers.{Apart, Fits, image-before, image-behind, cover-bytes, cover-length, cover-fitting}
 
 -- ---- option 82 taken out of the bytes
 
@@ -117,7 +117,7 @@ module _ {m : List ℕ} {a : Auth} (y : Fully m a) where
 
   -- option 82 and option 90 don't overlap, and without option 82 option 90 stands at `imageAt`
   record Stands : Type 0 where
-    pub apart : (a .at + 33 ≤ a .cut) ⊎ (a .cut + a .gap ≤ a .at)
+    pub apart : Apart a
     pub in-image : 240 + length (encode front) ≡ imageAt a
 
   abbrev before-90 : List Token
