@@ -367,6 +367,40 @@ static void growth_with_rows(void)
         printf("  %5zu rows   %8.0f ns  %5.2f times the first\n", rows[i], ns[i], ns[i] / ns[0]);
 }
 
+/* Puts an option 82 with a body of 30 bytes at an offset of each message, as a relay does: what the MAC covers stays. */
+static void relay(struct lot *lot, size_t at)
+{
+    for (size_t i = 0; i < LOT; i++) {
+        uint8_t *there = lot->messages[i] + at;
+
+        memmove(there + 32, there, lot->size - at);
+        memset(there, 9, 32);
+        there[0] = 82;
+        there[1] = 30;
+    }
+    lot->size += 32;
+}
+
+static void relayed_or_not(void)
+{
+    static const char *const what[] = {"without option 82", "before option 90", "behind option 90"};
+    enum { COUNT = sizeof what / sizeof what[0] };
+    static struct lot lots[COUNT];
+    struct work works[COUNT];
+    double ns[COUNT];
+
+    for (size_t i = 0; i < COUNT; i++) {
+        make_lot(&lots[i], 1, 300, BYTES_AFTER_END);
+        works[i] = (struct work){forget_received, our_checks, &lots[i], LOT};
+    }
+    relay(&lots[1], authentication_at(300, BYTES_AFTER_END));
+    relay(&lots[2], authentication_at(300, BYTES_AFTER_END) + 33);
+    measure(works, COUNT, ns);
+    printf("\nA check by option 82 (300 bytes and an option 82 of 32, one row):\n");
+    for (size_t i = 0; i < COUNT; i++)
+        printf("  %-18s %8.0f ns  %5.2f times the first\n", what[i], ns[i], ns[i] / ns[0]);
+}
+
 int main(void)
 {
     static const size_t sizes[] = {64, 300, 1472};
@@ -393,5 +427,6 @@ int main(void)
     growth_with_length("bytes after End", BYTES_AFTER_END);
     growth_with_length("pads before option 90", PADS_FIRST);
     growth_with_rows();
+    relayed_or_not();
     return 0;
 }

@@ -1,5 +1,5 @@
 /*
- * Seals a DHCPv4 message and checks it, as a server and a client that share a secret would.
+ * Seals a DHCPv4 message and checks it, as a server and a client that share a secret would, with a relay between them.
  *
  * Build it with:  cc -std=c11 -Iinclude examples/seal_and_check.c target/staticlib/librimemagpie.a -o target/seal_and_check
  *
@@ -60,6 +60,17 @@ static size_t make_message(uint8_t *message)
     return end + 1;
 }
 
+/* What a relay does on the way: it counts itself in hops and puts its option 82 before the other options. */
+static size_t relay(uint8_t *message, size_t length)
+{
+    static const uint8_t relay_information[] = {82, 3, 1, 1, 9};
+
+    message[3] += 1;
+    memmove(message + 240 + sizeof relay_information, message + 240, length - 240);
+    memcpy(message + 240, relay_information, sizeof relay_information);
+    return length + sizeof relay_information;
+}
+
 /* Prints what a call returned and whether that was expected. */
 static int expect(const char *what, uint8_t number, uint8_t expected)
 {
@@ -79,7 +90,7 @@ int main(void)
     good &= expect("server seals", seal(&server, message, length, &sealed_counter), RIMEMAGPIE_DONE);
     printf("  under id %u with counter %" PRIu64 "\n", (unsigned)SECRET_ID, sealed_counter);
 
-    message[3] = 1; /* hops: a relay passed it on */
+    length = relay(message, length);
     good &= expect("client checks", check(&client, message, length, &row, &counter), RIMEMAGPIE_DONE);
     printf("  accepted, row %" PRIu64 " counter %" PRIu64 "\n", row, counter);
     good &= row == 0 && counter == sealed_counter && client.received[0] == counter;
