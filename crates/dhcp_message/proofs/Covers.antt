@@ -50,44 +50,28 @@ module _ (size room : ℕ) (a : Auth) where
       }
 
   -- by the tests of `covers`
-  pub fits-cut : size < a .cut → false ≡ coverFits size room a
+  pub fits-stretch : size < a .cut + a .gap → false ≡ coverFits size room a
   unfolding coverFits
-  fits-cut h = let l : size < a .cut + a .gap = omega arith in rw (lt-leb _ _ l)
+  fits-stretch h = rw (lt-leb _ _ h)
 
-  module _ (h₁ : a .cut ≤ size) where
-    pub fits-gap : size - a .cut < a .gap → false ≡ coverFits size room a
+  module _ (l₁ : a .cut + a .gap ≤ size) where
+    pub fits-short : room < size - a .gap → false ≡ coverFits size room a
     unfolding coverFits
-    fits-gap h = let l : size < a .cut + a .gap = omega arith in rw (lt-leb _ _ l)
+    fits-short h = rw (le-leb _ _ l₁, lt-leb _ _ h)
 
-    module _ (h₂ : a .gap ≤ size - a .cut) where
-      abbrev l₁ : a .cut + a .gap ≤ size
-      l₁ = omega arith
-
-      pub fits-short : room < size - a .gap → false ≡ coverFits size room a
+    module _ (l₂ : size - a .gap ≤ room) where
+      pub fits-outside : size < a .at + 33 → false ≡ coverFits size room a
       unfolding coverFits
-      fits-short h = rw (le-leb _ _ l₁, lt-leb _ _ h)
+      fits-outside h = rw (le-leb _ _ l₁, le-leb _ _ l₂, lt-leb _ _ h)
 
-      module _ (l₂ : size - a .gap ≤ room) where
-        pub fits-small : size < 33 → false ≡ coverFits size room a
+      module _ (l₃ : a .at + 33 ≤ size) where
+        pub fits-before : a .at + 33 ≤ a .cut → true ≡ coverFits size room a
         unfolding coverFits
-        fits-small h = let l : size < a .at + 33 = omega arith in rw (le-leb _ _ l₁, le-leb _ _ l₂, lt-leb _ _ l)
+        fits-before h = rw (le-leb _ _ l₁, le-leb _ _ l₂, le-leb _ _ l₃, le-leb _ _ h)
 
-        module _ (h₃ : 33 ≤ size) where
-          pub fits-past : size - 33 < a .at → false ≡ coverFits size room a
-          unfolding coverFits
-          fits-past h = let l : size < a .at + 33 = omega arith in rw (le-leb _ _ l₁, le-leb _ _ l₂, lt-leb _ _ l)
-
-          module _ (h₄ : a .at ≤ size - 33) where
-            abbrev l₃ : a .at + 33 ≤ size
-            l₃ = omega arith
-
-            pub fits-before : a .at + 33 ≤ a .cut → true ≡ coverFits size room a
-            unfolding coverFits
-            fits-before h = rw (le-leb _ _ l₁, le-leb _ _ l₂, le-leb _ _ l₃, le-leb _ _ h)
-
-            pub fits-behind : a .cut < a .at + 33 → leb (a .cut + a .gap) (a .at) ≡ coverFits size room a
-            unfolding coverFits
-            fits-behind h = rw (le-leb _ _ l₁, le-leb _ _ l₂, le-leb _ _ l₃, lt-leb _ _ h)
+        pub fits-behind : a .cut < a .at + 33 → leb (a .cut + a .gap) (a .at) ≡ coverFits size room a
+        unfolding coverFits
+        fits-behind h = rw (le-leb _ _ l₁, le-leb _ _ l₂, le-leb _ _ l₃, lt-leb _ _ h)
 
   fits-all : Fits size room a → coverFits size room a ≡ true
   unfolding coverFits

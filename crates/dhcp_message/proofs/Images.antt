@@ -1,7 +1,7 @@
 -- The covered image: what `cover` writes for a message in full form is its image. Taking out option 82 moves option 90 where that stands behind it;
 -- `Stands` says where to, for either order.
 use mathlib.Core.Path.{_≡_, refl, sym, ap, ap₂, _∙_}
-use mathlib.Core.Logic.{_≢_, inl, inr}
+use mathlib.Core.Logic.{inl, inr}
 use Prim.Native.Nat.{ℕ, zero, suc, _+_, _-_, _≤_}
 use native.Mathlib.Nat.{add-zero}
 use native.Mathlib.Omega.{arith}
@@ -14,8 +14,8 @@ use Rattle.dhcp_message.specs.Options.{Token, opt, encode}
 use Rattle.dhcp_message.specs.Message.{count, optionOf, tokensBefore, offsetOf}
 use Rattle.dhcp_message.specs.Image.{without, macZero, headZero, imageOf, imageAt, coverBytes, coverSize, coverLeft}
 use Rattle.dhcp_message.specs.declared.Auth.{Auth}
-use Rattle.dhcp_message.proofs.Tokens.{Split, split, encode-append, count-append, count-split, option-none, before-none, before-behind}
-use Rattle.dhcp_message.proofs.Tokens.{without-none, without-append, without-one, count-without}
+use Rattle.dhcp_message.proofs.Tokens.{Split, split, encode-append, count-append, option-none, before-none, before-behind}
+use Rattle.dhcp_message.proofs.Tokens.{auth-not-relay, without-none, without-append, without-at, count-without}
 use Rattle.dhcp_message.proofs.Tokens.{zero-append, zero-none, written-body, option-there, before-there, option-at, before-at, none-back}
 use Rattle.dhcp_message.proofs.Passing.{Passing, whole, header-size, image-passed, around, front-size, inside}
 use Rattle.dhcp_message.proofs.FullForms.{Fully, parts, at-is, cut-is, gap-is, body-long, option-inside}
@@ -55,15 +55,11 @@ module _ {m : List ℕ} {ts : List Token} {rest : List ℕ} (p : Passing m ts re
       let ar : m ≡ pre ++ (x ++ post) = around p s ∙ ap (λ (x : List ℕ). pre ++ (x ++ post)) (sym (option-at s)) in
       let lp : length pre ≡ cut = front-size p s in
       let i = inside p s in
-      let cf : count 82 (s .front ++ s .back) ≡ 0 =
-      count-append 82 (s .front) (s .back) ∙ ap₂ (λ (a b : ℕ). a + b) (s .none-front) (none-back s (p .most-82)) in
-      let gone : without 82 ts ≡ s .front ++ s .back =
-      ap (without 82) (s .tokens) ∙ without-one 82 (s .front) (s .body) (s .back) ∙ without-none 82 (s .front ++ s .back) cf in
       let t : take cut m ≡ pre = ap (take cut) ar ∙ take-at pre _ cut lp in
       let d : drop (cut + length x) m ≡ post =
       ap₂ (λ (n : ℕ) (l : List ℕ). drop (n + length x) l) (sym lp) ar ∙ drop-append-add pre (x ++ post) (length x) ∙ drop-at x post (length x) refl in (
         omega arith,
-        ap₂ (λ (a b : List ℕ). a ++ b) t d ∙ simp (encode-append, append-assoc) refl ∙ ap bytes (sym gone),
+        ap₂ (λ (a b : List ℕ). a ++ b) t d ∙ simp (encode-append, append-assoc) refl ∙ ap bytes (sym (without-at 82 s (p .most-82))),
       )
 
   cuts : Cuts
@@ -93,9 +89,8 @@ module _ {m : List ℕ} {a : Auth} (y : Fully m a) where
 
   zero-is : macZero (without 82 (y .tokens)) ≡ front ++ (opt 90 (written 15 (zeros 16) body) ∷ back)
   zero-is =
-      let n : _≢_ {A = ℕ} 90 82 = λ e. omega arith in
-      let cf : count 90 front ≡ 0 = count-without 82 90 n (parts y .front) ∙ parts y .none-front in
-      let cb : count 90 back ≡ 0 = count-without 82 90 n (parts y .back) ∙ none-back (parts y) (omega (arith, y .passing .one-90)) in
+      let cf : count 90 front ≡ 0 = count-without 82 90 auth-not-relay (parts y .front) ∙ parts y .none-front in
+      let cb : count 90 back ≡ 0 = count-without 82 90 auth-not-relay (parts y .back) ∙ none-back (parts y) (omega (arith, y .passing .one-90)) in
       ap macZero left-is ∙ zero-append front (opt 90 body ∷ back)
       ∙ ap₂ (λ (us vs : List Token). us ++ (opt 90 (written 15 (zeros 16) body) ∷ vs)) (zero-none front cf) (zero-none back cb)
 
@@ -115,6 +110,10 @@ module _ {m : List ℕ} {a : Auth} (y : Fully m a) where
   pub stretch-inside : a .cut + a .gap ≤ length m
   stretch-inside = omega (arith, cut-is y, gap-is y, cuts (y .passing) .0)
 
+  -- where tokens end that begin behind the header
+  abbrev until : List Token → ℕ
+  until us = 240 + length (encode us)
+
   -- option 82 and option 90 don't overlap, and without option 82 option 90 stands at `imageAt`
   record Stands : Type 0 where
     pub apart : Apart a
@@ -124,15 +123,15 @@ module _ {m : List ℕ} {a : Auth} (y : Fully m a) where
   before-90 = parts y .front
 
   at-front : a .at ≡ 240 + length (encode before-90)
-  at-front = at-is y ∙ ap (λ (us : List Token). 240 + length (encode us)) (before-at (parts y))
+  at-front = at-is y ∙ ap until (before-at (parts y))
 
   -- no option 82 before option 90
   stands-late : count 82 before-90 ≡ 0 → Stands
   stands-late z =
       let e = ap (tokensBefore 82) (parts y .tokens) ∙ before-behind 82 (opt 90 body ∷ parts y .back) before-90 z in
-      let n = cut-is y ∙ ap (λ (us : List Token). 240 + length (encode us)) e in
+      let n = cut-is y ∙ ap until e in
       let l : a .at + 33 ≤ a .cut = omega (arith, at-front, body-long y, simp (encode-append, length-append) at n) in
-      let f = ap (λ (us : List Token). 240 + length (encode us)) (without-none 82 before-90 z) in
+      let f = ap until (without-none 82 before-90 z) in
       record { apart = inl l; in-image = f ∙ sym at-front ∙ image-before a (omega arith) }
 
   stands-early : Split 82 before-90 → Stands
@@ -142,18 +141,16 @@ module _ {m : List ℕ} {a : Auth} (y : Fully m a) where
       parts y .tokens ∙ ap (λ (us : List Token). us ++ (opt 90 body ∷ parts y .back)) (s .tokens)
       ∙ append-assoc (s .front) (opt 82 (s .body) ∷ s .back) (opt 90 body ∷ parts y .back) in
       let cut : a .cut ≡ 240 + length (encode (s .front)) =
-      cut-is y ∙ ap (λ (us : List Token). 240 + length (encode us)) (ap (tokensBefore 82) e ∙ before-there 82 (s .front) (s .body) behind (s .none-front)) in
+      cut-is y ∙ ap until (ap (tokensBefore 82) e ∙ before-there 82 (s .front) (s .body) behind (s .none-front)) in
       let gap : a .gap ≡ 2 + length (s .body) =
       gap-is y ∙ ap length (ap (optionOf 82) e ∙ option-there 82 (s .front) (s .body) behind (s .none-front)) ∙ omega arith in
-      let e-at = at-front ∙ ap (λ (us : List Token). 240 + length (encode us)) (s .tokens) in
+      let e-at = at-front ∙ ap until (s .tokens) in
       let at = simp (encode-append, length-append) at e-at in
       let l : a .cut + a .gap ≤ a .at = omega arith in
-      let c = ap (count 82) e ∙ count-split 82 (s .front) (s .body) behind ∙ ap (λ (n : ℕ). count 82 (s .front) + (1 + n)) (count-append 82 (s .back) _) in
-      let none : count 82 (s .front ++ s .back) ≡ 0 = count-append 82 (s .front) (s .back) ∙ omega (arith, y .passing .most-82) in
-      let f : 240 + length (encode front) ≡ 240 + (length (encode (s .front)) + length (encode (s .back))) =
-      ap (λ (us : List Token). 240 + length (encode us))
-      (ap (without 82) (s .tokens) ∙ without-one 82 (s .front) (s .body) (s .back) ∙ without-none 82 (s .front ++ s .back) none)
-      ∙ simp (encode-append, length-append) refl in
+      let c = ap (count 82) (parts y .tokens) ∙ count-append 82 before-90 (opt 90 body ∷ parts y .back) in
+      let n : count 82 before-90 ≤ 1 = omega (arith, y .passing .most-82) in
+      let w = ap until (without-at 82 s n) in
+      let f = simp (encode-append, length-append) at w in
       record { apart = inr l; in-image = omega (arith, image-behind a (omega arith)) }
 
   stands : Stands

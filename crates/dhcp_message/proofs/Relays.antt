@@ -1,7 +1,6 @@
--- All that a relay may do is permitted changes. And a permitted change keeps checks 2 to 7, option 90's bytes, what the message says and the
+-- All that a relay may do, it may do by permitted changes. And a permitted change keeps checks 2 to 7, option 90's bytes, what the message says and the
 -- covered image: what is left without option 82 is the same tokens, and hops and giaddr are zero in the image.
 use mathlib.Core.Path.{_≡_, refl, sym, ap, ap₂, _∙_, subst}
-use mathlib.Core.Logic.{_≢_}
 use Prim.Native.Nat.{ℕ, _+_, _≤_}
 use native.Mathlib.Omega.{arith}
 use mathlib.Core.List.{List, [], _∷_, _++_, append-assoc}
@@ -17,7 +16,7 @@ use Rattle.dhcp_message.specs.Image.{macZero, headWith, headZero, imageO
 use Rattle.dhcp_message.specs.Relay.{RelayChange, kept, added, replaced, removed, Permitted, Relayed, unchanged, changed}
 use Rattle.dhcp_message.specs.Relay.{Kept, RelayKeeps, AnyHeader, WhereFits, RelayMay}
 use Rattle.dhcp_message.proofs.Decoding.{decode-reads, reads-decode}
-use Rattle.dhcp_message.proofs.Tokens.{encode-append, count-append, count-split, count-without, option-without}
+use Rattle.dhcp_message.proofs.Tokens.{auth-not-relay, encode-append, count-append, count-split, count-without, option-without}
 use Rattle.dhcp_message.proofs.Passing.{Passing, passing, passing-27, Tokens, tokens-of, take-built, passing-built}
 use Rattle.dhcp_message.proofs.Passing.{header-size, header-magic, codes, whole, named-in, said-passed, auth-passed, image-passed}
 use Rattle.dhcp_message.proofs.Headers.{head-length, head-behind, head-over, head-bytes}
@@ -116,13 +115,10 @@ module _ {m n : List ℕ} (r : Permitted m n) where
   head-size : length head ≡ 240
   head-size = head-length (r .hops) (r .giaddr) (r .hops-size) (r .giaddr-size) header header-28 ∙ header-size before
 
-  other : _≢_ {A = ℕ} 90 82
-  other e = omega arith
-
   after : Passing n us (r .rest)
   after =
       passing-built n head us (r .rest) (r .becomes) head-size (change .codes-kept)
-      (sym (count-without 82 90 other us) ∙ ap (count 90) (change .same) ∙ count-without 82 90 other ts ∙ before .one-90)
+      (sym (count-without 82 90 auth-not-relay us) ∙ ap (count 90) (change .same) ∙ count-without 82 90 auth-not-relay ts ∙ before .one-90)
       (change .most)
       (ap (starts magicCookie)
       (head-behind (r .hops) (r .giaddr) (r .hops-size) (r .giaddr-size) header header-28 236 (omega arith) (omega (arith, header-size before)))
@@ -130,7 +126,7 @@ module _ {m n : List ℕ} (r : Permitted m n) where
       (r .fits)
 
   option-kept : optionOf 90 us ≡ optionOf 90 ts
-  option-kept = sym (option-without 82 90 other us) ∙ ap (optionOf 90) (change .same) ∙ option-without 82 90 other ts
+  option-kept = sym (option-without 82 90 auth-not-relay us) ∙ ap (optionOf 90) (change .same) ∙ option-without 82 90 auth-not-relay ts
 
   said-kept : saidOf n ≡ saidOf m
   said-kept = said-passed after ∙ ap saidBy option-kept ∙ sym (said-passed before)
@@ -182,7 +178,7 @@ relay-often before after (changed {l} {m} {n} c more) =
 pub relay-keeps : RelayKeeps
 relay-keeps = record { once = λ m n r. relay-once r; often = relay-often }
 
--- ---- option 82 moves: it is taken out, and then added
+-- ---- option 82 moves: it is taken out, and then added, so the first change is opened for its tokens and its header
 
 well-without : (p : List Token) (c : ℕ) (b : List ℕ) (q : List Token) → WellFormed (p ++ (opt c b ∷ q)) → WellFormed (p ++ q)
 well-without [] c b q h = h .3

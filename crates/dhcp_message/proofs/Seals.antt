@@ -1,7 +1,6 @@
 -- A message in full form with the 28 bytes of its option 90 written: it is in full form at the same places, says what was written, and its
 -- image does not depend on the MAC. On tokens, its option 90 has another body of the same length. And what a message says is what its form says.
 use mathlib.Core.Path.{_≡_, refl, sym, ap, ap₂, _∙_, subst}
-use mathlib.Core.Logic.{_≢_}
 use Prim.Native.Nat.{ℕ, _+_, _^_, _≤_, _<_}
 use native.Mathlib.Omega.{arith}
 use mathlib.Core.List.{List, _∷_, _++_, append-assoc}
@@ -24,7 +23,7 @@ use Rattle.dhcp_message.specs.declared.Auth.{Auth}
 use Rattle.dhcp_message.specs.declared.Form.{Form}
 use Rattle.dhcp_message.specs.declared.Form.the-variants.{Refused, Full}
 use Rattle.dhcp_message.proofs.Decoding.{Codes, codes-append, codes-left, codes-right}
-use Rattle.dhcp_message.proofs.Tokens.{encode-append, count-append, option-other, before-other, option-there, before-there}
+use Rattle.dhcp_message.proofs.Tokens.{auth-not-relay, encode-append, count-append, option-other, before-other, option-there, before-there}
 use Rattle.dhcp_message.proofs.Tokens.{without-append, zero-append, written-body, option-at, before-at}
 use Rattle.dhcp_message.proofs.Passing.{Passing, said-in, named-in, form-in, passing-27, take-built, passing-built, header-size, header-magic, codes}
 use Rattle.dhcp_message.proofs.Passing.{form-passed, said-passed, image-passed, around, front-size}
@@ -79,15 +78,12 @@ module _ {m : List ℕ} {a : Auth} (y : Fully m a) (new : List ℕ) (size : leng
   count-same : (c : ℕ) → count c (with-body body′) ≡ count c (y .tokens)
   count-same c = count-append c front (opt 90 body′ ∷ back) ∙ sym (ap (count c) (parts y .tokens) ∙ count-append c front (opt 90 body ∷ back))
 
-  other : _≢_ {A = ℕ} 90 82
-  other e = omega arith
-
   option-same : optionOf 82 (with-body body′) ≡ optionOf 82 (y .tokens)
-  option-same = option-other 82 90 other body′ body back front ∙ ap (optionOf 82) (sym (parts y .tokens))
+  option-same = option-other 82 90 auth-not-relay body′ body back front ∙ ap (optionOf 82) (sym (parts y .tokens))
 
   cut-same : offsetOf 82 (with-body body′) ≡ a .cut
   cut-same =
-      ap (λ (n : ℕ). 240 + n) (before-other 82 90 other body′ body back same-size front)
+      ap (λ (n : ℕ). 240 + n) (before-other 82 90 auth-not-relay body′ body back same-size front)
       ∙ ap (offsetOf 82) (sym (parts y .tokens)) ∙ sym (cut-is y)
 
   at-same : offsetOf 90 (with-body body′) ≡ a .at

@@ -15,6 +15,10 @@ use Rattle.dhcp_message.specs.Options.{Token, pad, opt, encode}
 use Rattle.dhcp_message.specs.Message.{count, optionOf, tokensBefore}
 use Rattle.dhcp_message.specs.Image.{without, bodyZero, macZero}
 
+-- the codes of option 90 and option 82
+pub auth-not-relay : _≢_ {A = ℕ} 90 82
+auth-not-relay e = omega arith
+
 pub once : (n : ℕ) → n ≢ 0 → n ≤ 1 → n ≡ 1
 once zero h l = absurd (h refl)
 once (suc n) h l = omega arith
@@ -45,7 +49,7 @@ module _ (c : ℕ) where
 
   -- in front of other tokens, tokens without an option of code c
   module _ (q : List Token) where
-    pub option-behind : (p : List Token) → count c p ≡ 0 → optionOf c (p ++ q) ≡ optionOf c q
+    option-behind : (p : List Token) → count c p ≡ 0 → optionOf c (p ++ q) ≡ optionOf c q
     option-behind [] z = refl
     option-behind (pad ∷ p) z = option-behind p z
     option-behind (opt e b ∷ p) z = let h = no-hit e p (eqb e c) refl z in rw (h .0) (option-behind p (h .1))
@@ -113,7 +117,7 @@ module _ {c : ℕ} {ts : List Token} (s : Split c ts) where
 
 -- ---- another option's body
 
--- what the option of code c is doesn't go by it, and how far that stands goes by its length alone
+-- the bytes of the option of code c don't go by it, and how far that option stands goes by its length alone
 module _ (c d : ℕ) (n : d ≢ c) (b b′ : List ℕ) (q : List Token) where
   pub option-other : (p : List Token) → optionOf c (p ++ (opt d b ∷ q)) ≡ optionOf c (p ++ (opt d b′ ∷ q))
   option-other [] = rw (ne-eqb _ _ n)
@@ -162,6 +166,12 @@ module _ (c : ℕ) where
   -- one of them, whatever its body, taken out or not
   pub without-one : (p : List Token) (b : List ℕ) (q : List Token) → without c (p ++ (opt c b ∷ q)) ≡ without c (p ++ q)
   without-one p b q = without-append p (opt c b ∷ q) ∙ rw (eq-eqb c c refl) (sym (without-append p q))
+
+  -- the one that is there
+  pub without-at : {ts : List Token} (s : Split c ts) → count c ts ≤ 1 → without c ts ≡ s .front ++ s .back
+  without-at {ts} s h =
+      let n : count c (s .front ++ s .back) ≡ 0 = count-append c (s .front) (s .back) ∙ omega (arith, s .none-front, none-back s h) in
+      ap (without c) (s .tokens) ∙ without-one (s .front) (s .body) (s .back) ∙ without-none (s .front ++ s .back) n
 
   pub count-without : (d : ℕ) → d ≢ c → (ts : List Token) → count d (without c ts) ≡ count d ts
   count-without d n [] = refl

@@ -29,7 +29,7 @@ someMac = upFrom 1 16
 abbrev pub relayInTheMiddle : List ℕ
 relayInTheMiddle = messageOf (fullAuth 1 11 7 someMac ++ (82 ∷ 1 ∷ 9 ∷ 53 ∷ 1 ∷ 5 ∷ 255 ∷ []))
 
--- the number of each: that of the lowest of checks 2 to 9 that applies
+-- the number of each: that of the lowest of checks 2 to 9 that applies, 0 where none does
 pub record BenchExamples : Type 0 where
   pub example-3-short : formNumber (formOf (zeros 240)) ≡ 2
   pub example-3-long : formNumber (formOf (zeros 1473)) ≡ 2
@@ -92,7 +92,8 @@ pub record LayoutPinned : Type 0 where
   pub scanned : scanOf distinct ≡ Whole (record { n90 = 1; at90 = 246; n82 = 1; at82 = 279; size82 = 4 }) 284
   pub said : saidOf distinct ≡ says 0xc9ca_cbcc_cdce_cfd0 0xd1d2_d3d4 (upFrom 213 16)
   pub image : imageOf distinct ≡ distinctImage
-  -- an option 90 in full form takes 33 bytes, right before option 82 or right behind it; a byte less is refused
+  -- an option 90 in full form takes 33 bytes, right before option 82 or right behind it; a byte less before or behind that, or up to the end, is too
+  -- few
   pub covers-before : coveredOf40 0 33 7 ≡ 33
   pub covers-into : coveredOf40 0 32 7 ≡ 0
   pub covers-behind : coveredOf40 7 0 7 ≡ 33
@@ -123,6 +124,6 @@ pub record LayoutPinned : Type 0 where
   pub number-4 : formNumber (formOf (distinctOf (12 ∷ 2 ∷ 90 ∷ []))) ≡ 4
   pub number-5 : formNumber (formOf (distinctOf (255 ∷ []))) ≡ 5
   pub number-6 : formNumber (formOf (distinctOf (90 ∷ 0 ∷ 90 ∷ 0 ∷ 255 ∷ []))) ≡ 6
-  pub number-7 : formNumber (formOf (distinctOf (90 ∷ 0 ∷ 82 ∷ 0 ∷ 82 ∷ 0 ∷ 255 ∷ []))) ≡ 7
+  pub number-7 : formNumber (formOf (distinctOf (82 ∷ 0 ∷ 90 ∷ 0 ∷ 82 ∷ 0 ∷ 255 ∷ []))) ≡ 7
   pub number-8 : formNumber (formOf (distinctOf (90 ∷ 0 ∷ 255 ∷ []))) ≡ 8
   pub number-9 : formNumber (formOf (distinctOf (90 ∷ 11 ∷ 1 ∷ 1 ∷ 0 ∷ (upFrom 1 8 ++ (255 ∷ []))))) ≡ 9

@@ -52,7 +52,7 @@ coverFits size room a =
     && (leb (size - a .gap) room
     && (leb (a .at + fullSize) size && (leb (a .at + fullSize) (a .cut) || leb (a .cut + a .gap) (a .at))))
 
--- where option 90 stands without the stretch: as many bytes earlier as the stretch has, where that is before it
+-- where option 90 stands without the stretch: as many bytes earlier as the stretch has, where the stretch is before option 90
 unfoldable pub imageAt : Auth → ℕ
 imageAt a = cond (ltb (a .at) (a .cut)) (a .at) (a .at - a .gap)
 

@@ -40,7 +40,7 @@ fn covers(size: usize, room: usize, auth: Auth) -> bool
     auth.cut + auth.gap <= auth.at
 }
 
-// Where option 90 stands in the image: as many bytes earlier as option 82 takes, where that stands before it and so leaves room for them.
+// Where option 90 stands in the image: where option 82 stands before it, as many bytes earlier as option 82 takes. So many there must be before it.
 fn image_at(auth: Auth) -> usize
     requires { ⌜ (auth .cut ≤ auth .at → auth .gap ≤ auth .at) ⌝ }
     ensures { λ r. ⌜ r ≡ imageAt auth ⌝ }

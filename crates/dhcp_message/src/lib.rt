@@ -18,8 +18,8 @@ mod said;
 mod scan;
 mod seal;
 
-// What option 90 in full form says, and where: `at` is the offset of its code; option 82 takes `gap` bytes from `cut` on, none of them
-// where the message has no option 82.
+// What option 90 in full form says, and where in the message: `at` is the offset of its code; option 82, before it or behind it, takes `gap` bytes
+// from `cut` on, none of them where the message has no option 82.
 pub struct Auth {
     pub at: usize,
     pub counter: u64,

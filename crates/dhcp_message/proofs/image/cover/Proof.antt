@@ -10,20 +10,27 @@ use Rattle.dhcp_message.proofs.Covers.{Fits, fits-given, fits-not, gap-
 use Rattle.dhcp_message.proofs.image.cover.Statement.{statement}
 use Rattle.dhcp_message.proofs.image.cover.Tie as tie
 
+-- back from the test, and from the place of option 90 behind it, to what is lent
+abbrev start : tie.Else1 → tie.Start
+start c = c .before .before .before .before
+
+abbrev placed-start : tie.After-image-at → tie.Start
+placed-start c = start (c .before)
+
 -- behind the test: the offsets lie in the message, and the room suffices
-tested : (c : tie.Else1) → let a = c .before .before .before .before .args in Fits (length (a .message .now)) (length (now (a .out))) (a .auth)
+tested : (c : tie.Else1) → let a = start c .args in Fits (length (a .message .now)) (length (now (a .out))) (a .auth)
 tested c = fits-given _ _ _ _ (c .before .covers .ensures) (c .if1 .left)
 
-fits : (c : tie.After-image-at) → let a = c .before .before .before .before .before .args in Fits (length (a .message .now)) (length (now (a .out))) (a .auth)
+fits : (c : tie.After-image-at) → let a = placed-start c .args in Fits (length (a .message .now)) (length (now (a .out))) (a .auth)
 fits c = tested (c .before)
 
 -- the sizes of the two parts that are copied
-parts : (c : tie.After-image-at) → let a = c .before .before .before .before .before .args in PartSizes (a .message .now) (a .auth)
-parts c = let a = c .before .before .before .before .before .args in part-sizes (a .message .now) (now (a .out)) (a .auth) (fits c)
+parts : (c : tie.After-image-at) → let a = placed-start c .args in PartSizes (a .message .now) (a .auth)
+parts c = let a = placed-start c .args in part-sizes (a .message .now) (now (a .out)) (a .auth) (fits c)
 
 -- option 90 is whole in what is left
-there : (c : tie.After-image-at) → let a = c .before .before .before .before .before .args in imageAt (a .auth) + 33 ≤ length (a .message .now) - a .auth .gap
-there c = let a = c .before .before .before .before .before .args in fields-there (a .message .now) (now (a .out)) (a .auth) (fits c)
+there : (c : tie.After-image-at) → let a = placed-start c .args in imageAt (a .auth) + 33 ≤ length (a .message .now) - a .auth .gap
+there c = let a = placed-start c .args in fields-there (a .message .now) (now (a .out)) (a .auth) (fits c)
 
 returns : tie.Need-returns
 returns c = covered-not _ _ _ (fits-not _ _ _ _ (c .before .covers .ensures) (c .if1 .taken))
@@ -73,7 +80,7 @@ returns-2 c =
     let second = blanked .before .before .before .before in
     let first = second .before .before .before .before .before in
     let placed = first .before .before .before .before in
-    let a = placed .before .before .before .before .before .args in
+    let a = placed-start placed .args in
     covered (now (a .message)) (now (a .out)) (a .auth) (fits placed) _ _ _ _
     (placed .image-at .ensures) (first .copy .ensures) (second .copy2 .ensures) (blanked .blank .ensures)
 
