@@ -60,7 +60,7 @@ static size_t make_message(uint8_t *message)
     return end + 1;
 }
 
-/* What a relay does on the way: it counts itself in hops and puts its option 82 before the other options. */
+/* What a relay may do on the way: it counts itself in hops and puts an option 82 before the other options. */
 static size_t relay(uint8_t *message, size_t length)
 {
     static const uint8_t relay_information[] = {82, 3, 1, 1, 9};

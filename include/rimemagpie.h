@@ -46,24 +46,24 @@ extern "C" {
 
 /* The numbers given back, by the names of crates/refusal. */
 enum rimemagpie_number {
-    RIMEMAGPIE_DONE = 0,                       /* accepted or done */
-    RIMEMAGPIE_UNSOUND_BOOK = 1,               /* the book is not sound (reading a card: the lent sizes) */
-    RIMEMAGPIE_MESSAGE_SIZE = 2,               /* the message is below 241 or above 1,472 bytes */
-    RIMEMAGPIE_WRONG_COOKIE = 3,               /* the cookie differs */
-    RIMEMAGPIE_BROKEN_OPTIONS = 4,             /* an option passes the message's end, or there is no End */
-    RIMEMAGPIE_NO_AUTHENTICATION = 5,          /* no option 90 */
-    RIMEMAGPIE_REPEATED_AUTHENTICATION = 6,    /* more than one option 90 */
-    RIMEMAGPIE_REPEATED_RELAY_INFORMATION = 7, /* more than one option 82 */
-    RIMEMAGPIE_OTHER_AUTHENTICATION = 8,       /* option 90's length is neither 11 nor 31, or its body doesn't begin 1, 1, 0 */
-    RIMEMAGPIE_REQUEST_FORM = 9,               /* option 90 is a request (length 11): it has no id and no MAC */
-    RIMEMAGPIE_UNKNOWN_SECRET = 10,            /* the secret id has no row */
-    RIMEMAGPIE_REPLAY = 11,                    /* the counter is not above the row's received one */
-    RIMEMAGPIE_WRONG_MAC = 12,                 /* the MAC differs */
-    RIMEMAGPIE_COUNTER_SPENT = 13,             /* the sent counter is 2^64 - 1 */
-    RIMEMAGPIE_TOO_LONG = 14,                  /* a digest's total would pass 65,535 bytes, or an HMAC key 64 */
-    RIMEMAGPIE_MALFORMED_CARD = 15,            /* the card is malformed */
-    RIMEMAGPIE_NO_ROOM_FOR_CARD = 16,          /* the room for the card is too small */
-    RIMEMAGPIE_NO_ROOM_FOR_ROWS = 17           /* the card has more rows than the lent room */
+    RIMEMAGPIE_DONE = 0,                    /* accepted or done */
+    RIMEMAGPIE_UNSOUND_BOOK = 1,            /* the book is not sound (reading a card: the lent sizes) */
+    RIMEMAGPIE_MESSAGE_SIZE = 2,            /* the message is below 241 or above 1,472 bytes */
+    RIMEMAGPIE_WRONG_COOKIE = 3,            /* the cookie differs */
+    RIMEMAGPIE_BROKEN_OPTIONS = 4,          /* an option passes the message's end, or there is no End */
+    RIMEMAGPIE_NO_AUTHENTICATION = 5,       /* no option 90 */
+    RIMEMAGPIE_REPEATED_AUTHENTICATION = 6, /* more than one option 90 */
+    RIMEMAGPIE_RELAY_INFORMATION = 7,       /* more than one option 82 */
+    RIMEMAGPIE_OTHER_AUTHENTICATION = 8,    /* option 90's length is neither 11 nor 31, or its body doesn't begin 1, 1, 0 */
+    RIMEMAGPIE_REQUEST_FORM = 9,            /* option 90 is a request (length 11): it has no id and no MAC */
+    RIMEMAGPIE_UNKNOWN_SECRET = 10,         /* the secret id has no row */
+    RIMEMAGPIE_REPLAY = 11,                 /* the counter is not above the row's received one */
+    RIMEMAGPIE_WRONG_MAC = 12,              /* the MAC differs */
+    RIMEMAGPIE_COUNTER_SPENT = 13,          /* the sent counter is 2^64 - 1 */
+    RIMEMAGPIE_TOO_LONG = 14,               /* a digest's total would pass 65,535 bytes, or an HMAC key 64 */
+    RIMEMAGPIE_MALFORMED_CARD = 15,         /* the card is malformed */
+    RIMEMAGPIE_NO_ROOM_FOR_CARD = 16,       /* the room for the card is too small */
+    RIMEMAGPIE_NO_ROOM_FOR_ROWS = 17        /* the card has more rows than the lent room */
 };
 
 /*
@@ -86,7 +86,8 @@ uint8_t rimemagpie_hmac(const uint8_t *key, size_t key_len,
                         uint8_t mac[16]);
 
 /*
- * Checks a message that came from the network.
+ * Checks a message that came from the network. Hops, giaddr and the option 82, wherever that stands, are left out of what
+ * the MAC covers: a relay may alter them.
  *
  *   0        accepted: `*row` is the row of its secret, `*counter` its counter, and received[*row] is now that counter;
  *            nothing else changed
@@ -118,7 +119,7 @@ uint8_t rimemagpie_key(const uint32_t *ids, size_t ids_len,
 
 /*
  * Seals a message under the secret of an id. The message has an option 90 in full form, whose counter, id and MAC may hold
- * anything: they are what is written.
+ * anything: they are what is written. An option 82, before option 90 or behind it, is left as it is.
  *
  *   0        sealed: counter, id and MAC stand in the message (28 bytes in a row), and the counter, which is the row's
  *            sent one plus 1, is now that row's sent counter and `*counter`; nothing else changed

@@ -103,6 +103,8 @@ impl fmt::Debug for Book<'_> {
 
 impl Book<'_> {
     /// Checks a message that came from the network. Accepted, its counter is stored as received.
+    /// Hops, giaddr and the option 82, wherever that stands, are left out of what the MAC covers: a
+    /// relay may alter them.
     pub fn check(&mut self, message: &[u8]) -> Result<Accepted, Refusal> {
         let (mut row, mut counter) = (0, 0);
         Refusal::from_number(c::check(
@@ -138,7 +140,8 @@ impl Book<'_> {
     }
 
     /// Seals a message that has an option 90 in full form: writes the next counter, the id and the
-    /// MAC, stores the counter as sent and returns it.
+    /// MAC, stores the counter as sent and returns it. An option 82, before option 90 or behind it, is
+    /// left as it is.
     pub fn seal(&mut self, id: u32, message: &mut [u8]) -> Result<u64, Refusal> {
         let mut counter = 0;
         Refusal::from_number(c::seal(

@@ -40,7 +40,7 @@ refusals! {
     BrokenOptions = 4, "an option passes the message's end, or there is no End";
     NoAuthentication = 5, "there is no option 90";
     RepeatedAuthentication = 6, "there is more than one option 90";
-    RepeatedRelayInformation = 7, "there is more than one option 82";
+    RelayInformation = 7, "there is more than one option 82";
     OtherAuthentication = 8, "option 90 is not delayed authentication with HMAC-MD5 and a counter";
     RequestForm = 9, "option 90 is a request, without id and MAC";
     UnknownSecret = 10, "the secret id has no row";

@@ -16,7 +16,7 @@ use Rattle.refusal.specs.declared.Refusal.{Refusal}
 use Rattle.refusal.proofs.Names.{numbers-tell}
 use Rattle.refusal.proofs.Lowest.{nothing-more, Right, lowest}
 use Rattle.refusal.specs.declared.Refusal.the-variants.{MessageSize, WrongCookie, BrokenOptions, NoAuthentication, RepeatedAuthentication}
-use Rattle.refusal.specs.declared.Refusal.the-variants.{RepeatedRelayInformation, OtherAuthentication, RequestForm}
+use Rattle.refusal.specs.declared.Refusal.the-variants.{RelayInformation, OtherAuthentication, RequestForm}
 use Rattle.dhcp_message.specs.Layout.{magicCookie, delayed}
 use Rattle.octets.specs.Bytes.{Bytes, starts}
 use Rattle.dhcp_message.specs.Options.{Token, Parsed, broken, parsed, decode, Reads}
@@ -83,7 +83,7 @@ module _ (m : List ℕ) (bytes : Bytes m) where
       → (x y z : Bool) → eqb (count 90 ts) 0 ≡ x → ltb 1 (count 90 ts) ≡ y → ltb 1 (count 82 ts) ≡ z
       → Given m
       (cond x (stopped NoAuthentication)
-      (cond y (stopped RepeatedAuthentication) (cond z (stopped RepeatedRelayInformation) (passed ts rest))))
+      (cond y (stopped RepeatedAuthentication) (cond z (stopped RelayInformation) (passed ts rest))))
   given-tokens h ts rest e true y z hx hy hz = (no-authentication (readable m bytes ts rest e (eqb-true (count 90 ts) 0 hx)), h, omega arith)
   given-tokens h ts rest e false y z hx hy hz = by y z hy hz
     where
@@ -94,13 +94,13 @@ module _ (m : List ℕ) (bytes : Bytes m) where
       no-6 k = nothing-more (Applies m) RepeatedAuthentication no-5 (λ a. elim a [ repeated-authentication w ↦ omega (arith, read-as m bytes ts rest e w) ])
 
       by : (y z : Bool) → ltb 1 (count 90 ts) ≡ y → ltb 1 (count 82 ts) ≡ z
-          → Given m (cond y (stopped RepeatedAuthentication) (cond z (stopped RepeatedRelayInformation) (passed ts rest)))
+          → Given m (cond y (stopped RepeatedAuthentication) (cond z (stopped RelayInformation) (passed ts rest)))
       by true z hy hz = (repeated-authentication (readable m bytes ts rest e (ltb-true 1 (count 90 ts) hy)), no-5, omega arith)
       by false true hy hz =
           (repeated-relay-information (readable m bytes ts rest e (ltb-true 1 (count 82 ts) hz)), no-6 (ltb-false 1 (count 90 ts) hy), omega arith)
       by false false hy hz =
           let k = ltb-false 1 (count 82 ts) hz in
-          nothing-more (Applies m) RepeatedRelayInformation (no-6 (ltb-false 1 (count 90 ts) hy))
+          nothing-more (Applies m) RelayInformation (no-6 (ltb-false 1 (count 90 ts) hy))
           (λ a. elim a [ repeated-relay-information w ↦ omega (arith, read-as m bytes ts rest e w) ])
 
   given-parsed : Below m 4 → (p : Parsed) → decode (drop 240 m) ≡ p → Given m (checkedParsed p)

@@ -9,7 +9,7 @@ use lib.ListN.{length, take, drop, getD, length-append, length-drop, take-append
 use lib.Seq.{length-take-le, take-at, drop-at, drop-append-le}
 use lib.Dec.{ltb, eqb}
 use borrow.Author.Tests.{lt-ltb, le-ltb, ne-eqb, eqb-false, ltb-false}
-use Rattle.refusal.specs.declared.Refusal.the-variants.{MessageSize, WrongCookie, NoAuthentication, RepeatedAuthentication, RepeatedRelayInformation}
+use Rattle.refusal.specs.declared.Refusal.the-variants.{MessageSize, WrongCookie, NoAuthentication, RepeatedAuthentication, RelayInformation}
 use Rattle.dhcp_message.specs.Layout.{magicCookie}
 use Rattle.octets.specs.Bytes.{starts}
 use Rattle.dhcp_message.specs.Options.{Token, Parsed, broken, parsed, encode, decode}
@@ -34,7 +34,7 @@ pub record Passing (m : List ℕ) (ts : List Token) (rest : List ℕ) : Type 0 w
 abbrev pub byTests : List Token → List ℕ → Bool → Bool → Bool → Checked
 byTests ts rest x y z =
     cond x (stopped NoAuthentication)
-    (cond y (stopped RepeatedAuthentication) (cond z (stopped RepeatedRelayInformation) (passed ts rest)))
+    (cond y (stopped RepeatedAuthentication) (cond z (stopped RelayInformation) (passed ts rest)))
 
 pub by-tests : (ts : List Token) (rest : List ℕ)
     → checkedTokens ts rest ≡ byTests ts rest (eqb (count 90 ts) 0) (ltb 1 (count 90 ts)) (ltb 1 (count 82 ts))

@@ -10,7 +10,7 @@ use lib.ListN.{length, drop}
 use lib.Dec.{ltb, eqb}
 use borrow.Author.Tests.{ne-eqb, eq-eqb, lt-ltb, le-ltb, eqb-true, eqb-false, ltb-true, ltb-false}
 use Rattle.refusal.specs.declared.Refusal.the-variants.{MessageSize, WrongCookie, BrokenOptions}
-use Rattle.refusal.specs.declared.Refusal.the-variants.{NoAuthentication, RepeatedAuthentication, RepeatedRelayInformation}
+use Rattle.refusal.specs.declared.Refusal.the-variants.{NoAuthentication, RepeatedAuthentication, RelayInformation}
 use Rattle.octets.specs.Bytes.{starts}
 use Rattle.dhcp_message.specs.Layout.{magicCookie}
 use Rattle.dhcp_message.specs.Options.{Token, Parsed, broken, parsed, encode, decode}
@@ -47,7 +47,7 @@ module _ (f : Tally) (e : ℕ) where
       found-plain h = rw (ne-eqb _ _ h₀, le-ltb _ _ h₁, eq-eqb _ _ h)
 
       module _ (h₂ : f .n82 ≢ 0) where
-        pub found-7 : 1 < f .n82 → SRefused RepeatedRelayInformation ≡ shapeFound f e
+        pub found-7 : 1 < f .n82 → SRefused RelayInformation ≡ shapeFound f e
         unfolding shapeFound
         found-7 h = rw (ne-eqb _ _ h₀, le-ltb _ _ h₁, ne-eqb _ _ h₂, lt-ltb _ _ h)
 
@@ -84,7 +84,7 @@ module _ (ts : List Token) (rest : List ℕ) where
   byPass x y z w =
       cond x (SRefused NoAuthentication)
       (cond y (SRefused RepeatedAuthentication)
-      (cond z (SPassed places₀) (cond w (SRefused RepeatedRelayInformation) (SPassed places₁))))
+      (cond z (SPassed places₀) (cond w (SRefused RelayInformation) (SPassed places₁))))
 
   found-by : (x y z w : Bool) → eqb (count 90 ts) 0 ≡ x → ltb 1 (count 90 ts) ≡ y → eqb (count 82 ts) 0 ≡ z → ltb 1 (count 82 ts) ≡ w
       → byPass x y z w ≡ shapeIn (byTests ts rest x y w)

@@ -6,8 +6,7 @@ use mathlib.Core.List.{List, [], _∷_}
 use lib.ListN.{length, drop}
 use lib.Dec.{ltb, eqb}
 use Rattle.refusal.specs.declared.Refusal.{Refusal}
-use Rattle.refusal.specs.declared.Refusal.the-variants.{MessageSize, WrongCookie, BrokenOptions}
-use Rattle.refusal.specs.declared.Refusal.the-variants.{NoAuthentication, RepeatedAuthentication, RepeatedRelayInformation}
+use Rattle.refusal.specs.declared.Refusal.the-variants.{MessageSize, WrongCookie, BrokenOptions, NoAuthentication, RepeatedAuthentication, RelayInformation}
 use Rattle.dhcp_message.specs.Layout.{messageLeast, messageMost, headerSize, cookieAt, magicCookie, relayCode, authCode}
 use Rattle.octets.specs.Bytes.{starts}
 use Rattle.dhcp_message.specs.Options.{Token, pad, opt, Parsed, broken, parsed, encode, decode}
@@ -44,7 +43,7 @@ unfoldable pub checkedTokens : List Token → List ℕ → Checked
 checkedTokens ts rest =
     cond (eqb (count authCode ts) 0) (stopped NoAuthentication)
     (cond (ltb 1 (count authCode ts)) (stopped RepeatedAuthentication)
-    (cond (ltb 1 (count relayCode ts)) (stopped RepeatedRelayInformation) (passed ts rest)))
+    (cond (ltb 1 (count relayCode ts)) (stopped RelayInformation) (passed ts rest)))
 
 -- 4
 abbrev pub checkedParsed : Parsed → Checked

@@ -9,7 +9,7 @@ use Rattle.refusal.specs.Number.{numberOf}
 use Rattle.refusal.specs.Lowest.{NothingBelow, Lowest}
 use Rattle.refusal.specs.declared.Refusal.{Refusal}
 use Rattle.refusal.specs.declared.Refusal.the-variants.{MessageSize, WrongCookie, BrokenOptions, NoAuthentication, RepeatedAuthentication}
-use Rattle.refusal.specs.declared.Refusal.the-variants.{RepeatedRelayInformation, OtherAuthentication, RequestForm}
+use Rattle.refusal.specs.declared.Refusal.the-variants.{RelayInformation, OtherAuthentication, RequestForm}
 use Rattle.dhcp_message.specs.Layout.{messageLeast, messageMost, headerSize, cookieAt, magicCookie, relayCode, authCode}
 use Rattle.dhcp_message.specs.Layout.{fullLength, requestLength, delayed}
 use Rattle.octets.specs.Bytes.{Bytes}
@@ -54,7 +54,7 @@ pub data Applies (m : List ℕ) : Refusal → Type 0 where
   no-authentication : WhereRead (λ ts. count authCode ts ≡ 0) m → Applies m NoAuthentication
   repeated-authentication : WhereRead (λ ts. 1 < count authCode ts) m → Applies m RepeatedAuthentication
   -- more than one option 82, wherever they stand
-  repeated-relay-information : WhereRead (λ ts. 1 < count relayCode ts) m → Applies m RepeatedRelayInformation
+  repeated-relay-information : WhereRead (λ ts. 1 < count relayCode ts) m → Applies m RelayInformation
   other-form : WhereRead (Has authCode OtherForm) m → Applies m OtherAuthentication
   request-form : WhereRead (Has authCode RequestBytes) m → Applies m RequestForm
 

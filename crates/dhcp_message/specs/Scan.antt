@@ -5,7 +5,7 @@ use mathlib.Core.Bool.{cond}
 use mathlib.Core.List.{List, [], _∷_}
 use lib.ListN.{length, drop}
 use lib.Dec.{ltb, eqb}
-use Rattle.refusal.specs.declared.Refusal.the-variants.{NoAuthentication, RepeatedAuthentication, RepeatedRelayInformation}
+use Rattle.refusal.specs.declared.Refusal.the-variants.{NoAuthentication, RepeatedAuthentication, RelayInformation}
 use Rattle.dhcp_message.specs.Layout.{headerSize, relayCode, authCode, padSize, optionHead}
 use Rattle.dhcp_message.specs.Options.{Token, pad, opt, Parsed, broken, parsed, Lead, nothing, end, token, lead, decode}
 use Rattle.dhcp_message.specs.Message.{Checked, stopped, passed, checkedOf}
@@ -65,7 +65,7 @@ shapeFound f ends =
     cond (eqb (f .n90) 0) (SRefused NoAuthentication)
     (cond (ltb 1 (f .n90)) (SRefused RepeatedAuthentication)
     (cond (eqb (f .n82) 0) (SPassed (record { at = f .at90; cut = ends; gap = 0 }))
-    (cond (ltb 1 (f .n82)) (SRefused RepeatedRelayInformation) (SPassed (record { at = f .at90; cut = f .at82; gap = f .size82 })))))
+    (cond (ltb 1 (f .n82)) (SRefused RelayInformation) (SPassed (record { at = f .at90; cut = f .at82; gap = f .size82 })))))
 
 -- 2 to 7, with the places of a message that passes them
 abbrev pub shapeIn : Checked → Shape

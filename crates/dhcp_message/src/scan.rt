@@ -157,7 +157,7 @@ fn shape_found(f: Tally, end: usize) -> Shape
         });
     }
     if 1 < f.n82 {
-        return Shape::Refused(Refusal::RepeatedRelayInformation);
+        return Shape::Refused(Refusal::RelayInformation);
     }
     Shape::Passed(Places {
         at: f.at90,

@@ -98,7 +98,7 @@ pub fn shape(message: &[u8]) -> Result<Shape, Refusal> {
     }
     let relay_agents = of_code(message, &places, RELAY_AGENT);
     if relay_agents.len() > 1 {
-        return Err(Refusal::RepeatedRelayInformation);
+        return Err(Refusal::RelayInformation);
     }
     Ok(Shape {
         authentication: authentications[0],

@@ -17,7 +17,7 @@ pub enum Refusal {
     /// There is more than one option 90.
     RepeatedAuthentication = 6,
     /// There is more than one option 82.
-    RepeatedRelayInformation = 7,
+    RelayInformation = 7,
     /// Option 90 has another length than 11 and 31, or doesn't begin with 1, 1, 0.
     OtherAuthentication = 8,
     /// Option 90 is a request for authentication, without id and MAC.

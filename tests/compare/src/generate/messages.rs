@@ -619,7 +619,7 @@ mod tests {
 
     /// With more than one option 82, wherever they stand, the number is 7.
     #[test]
-    fn repeated_options_82_come_up_at_every_place() {
+    fn repeated_options_82_come_up_in_each_way() {
         let messages = sample(&[Fault::TwoRelayAgents]);
         let (fit, too_long): (Vec<_>, Vec<_>) = messages
             .into_iter()
@@ -643,7 +643,7 @@ mod tests {
         situations::require_every_place(&messages);
     }
 
-    /// Whichever option is the last, lengthening it breaks the options.
+    /// Whichever option is the last, lengthening it breaks the options, where it can be so long.
     #[test]
     fn the_last_option_is_lengthened() {
         let mut random = Random::new(10);

@@ -56,7 +56,7 @@ fn places_of(code: u8, codes: &[u8]) -> Vec<usize> {
 type Situation = (&'static str, fn(&Seen) -> bool);
 
 /// How the one option 82 stands in a message.
-const SITUATIONS: [Situation; 13] = [
+const SITUATIONS: [Situation; 15] = [
     ("first of all", |seen| seen.place == 0),
     ("right before option 90", |seen| {
         seen.behind() == AUTHENTICATION
@@ -66,6 +66,13 @@ const SITUATIONS: [Situation; 13] = [
     }),
     ("before option 90", |seen| seen.authentication_is_behind()),
     ("behind option 90", |seen| !seen.authentication_is_behind()),
+    ("before option 90 and apart from it", |seen| {
+        seen.authentication_is_behind() && seen.behind() != AUTHENTICATION
+    }),
+    ("behind option 90, apart from it and not last", |seen| {
+        let apart = seen.before() != Some(AUTHENTICATION) && seen.behind() != END;
+        apart && !seen.authentication_is_behind()
+    }),
     ("between pads", |seen| {
         seen.before() == Some(PAD) && seen.behind() == PAD
     }),
