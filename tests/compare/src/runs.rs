@@ -183,8 +183,10 @@ pub struct SecondRun {
     pub steps: Vec<Step>,
     /// Where each step of the first run stands.
     pub places: Vec<usize>,
-    /// How many checked messages are not as they were in the first run.
+    /// How many checked messages are not as they were in the first run, and how many of these are in
+    /// full form with option 82 before option 90.
     pub relayed: usize,
+    pub with_82_first: usize,
 }
 
 impl SecondRun {
@@ -202,11 +204,15 @@ pub fn second_run(random: &mut Random, start: &Book, first: &[Step]) -> SecondRu
         steps: Vec::new(),
         places: vec![0; first.len()],
         relayed: 0,
+        with_82_first: 0,
     };
     for i in shuffled(random, first) {
         put_in_checks(random, &mut second, &book);
         let step = relayed_step(random, &first[i]);
-        second.relayed += usize::from(differ(&step, &first[i]));
+        if differ(&step, &first[i]) {
+            second.relayed += 1;
+            second.with_82_first += usize::from(has_82_first(message_of(&step)));
+        }
         take_step::<Reference>(&mut book, &step);
         second.places[i] = second.steps.len();
         second.steps.push(step);
@@ -263,6 +269,15 @@ fn relayed_step(random: &mut Random, step: &Step) -> Step {
 
 fn differ(one: &Step, other: &Step) -> bool {
     message_of(one) != message_of(other)
+}
+
+/// Whether a message is in full form with option 82 before option 90.
+fn has_82_first(message: &[u8]) -> bool {
+    full_form(message).is_ok_and(|shape| {
+        shape
+            .relay_agent
+            .is_some_and(|relay_agent| relay_agent.at < shape.authentication.at)
+    })
 }
 
 fn message_of(step: &Step) -> &[u8] {

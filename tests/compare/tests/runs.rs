@@ -22,6 +22,7 @@ struct Seen {
     refused: usize,
     moved: usize,
     relayed: usize,
+    with_82_first: usize,
     put_in: usize,
     replayed: usize,
 }
@@ -106,6 +107,7 @@ impl Seen {
         }
         self.moved += second.places.windows(2).filter(|w| w[1] < w[0]).count();
         self.relayed += second.relayed;
+        self.with_82_first += second.with_82_first;
         self.put_in += second.put_in();
     }
 
@@ -115,8 +117,8 @@ impl Seen {
             self.runs, self.accepted, self.sealed, self.refused
         ));
         say(&format!(
-            "second runs: {} steps moved, {} relayed, {} put in; {} replays in both",
-            self.moved, self.relayed, self.put_in, self.replayed
+            "second runs: {} steps moved, {} relayed, {} of them with 82 before 90, {} put in; {} replays in both",
+            self.moved, self.relayed, self.with_82_first, self.put_in, self.replayed
         ));
     }
 
@@ -127,6 +129,7 @@ impl Seen {
             self.refused,
             self.moved,
             self.relayed,
+            self.with_82_first,
             self.put_in,
             self.replayed,
         ];
