@@ -21,55 +21,60 @@ use Rattle.delayed_auth.specs.Admit.{admittedSaid, admittedForm}
 
 -- ---- 1 to 9
 
-pub data SaidCase (b : Book) (m : List ℕ) : Said → Type 0 where
-  said-unsound : sound b ≡ false → SaidCase b m (refused UnsoundBook)
-  said-sound : {x : Said} → sound b ≡ true → saidOf m ≡ x → SaidCase b m x
+-- of what a message gives: that, where the book is sound, else the refusal of a book that is not
+pub data AdmitCase {A : Type 0} (b : Book) (given refusal : A) : A → Type 0 where
+  unsound-book : sound b ≡ false → AdmitCase b given refusal refusal
+  sound-book : {x : A} → sound b ≡ true → given ≡ x → AdmitCase b given refusal x
 
-pub data FormCase (b : Book) (m : List ℕ) : Form → Type 0 where
-  form-unsound : sound b ≡ false → FormCase b m (Refused UnsoundBook)
-  form-sound : {f : Form} → sound b ≡ true → formOf m ≡ f → FormCase b m f
+module _ {A : Type 0} (b : Book) (given refusal : A) where
+  case-admitted : (x : A) → AdmitCase b given refusal x → x ≡ cond (sound b) given refusal
+  case-admitted x (unsound-book s) = rw s
+  case-admitted x (sound-book s e) = rw (s, e)
+
+  admitted-case : (x : A) → x ≡ cond (sound b) given refusal → AdmitCase b given refusal x
+  admitted-case x e = on (sound b) refl e
+    where
+      on : (t : Bool) → sound b ≡ t → x ≡ cond t given refusal → AdmitCase b given refusal x
+      on true s e = sound-book s (sym e)
+      on false s e = rw e (unsound-book s)
 
 module _ (b : Book) (m : List ℕ) where
-  pub case-said : (x : Said) → SaidCase b m x → x ≡ admittedSaid b m
+  abbrev pub SaidCase : Said → Type 0
+  SaidCase x = AdmitCase b (saidOf m) (refused UnsoundBook) x
+
+  pub case-said : (x : Said) → SaidCase x → x ≡ admittedSaid b m
   unfolding admittedSaid
-  case-said x (said-unsound s) = rw s
-  case-said x (said-sound s e) = rw (s, e)
+  case-said = case-admitted b (saidOf m) (refused UnsoundBook)
 
-  pub said-case : (x : Said) → x ≡ admittedSaid b m → SaidCase b m x
+  pub said-case : (x : Said) → x ≡ admittedSaid b m → SaidCase x
   unfolding admittedSaid
-  said-case x e = on (sound b) refl e
-    where
-      on : (t : Bool) → sound b ≡ t → x ≡ cond t (saidOf m) (refused UnsoundBook) → SaidCase b m x
-      on true s e = said-sound s (sym e)
-      on false s e = rw e (said-unsound s)
+  said-case = admitted-case b (saidOf m) (refused UnsoundBook)
 
-  pub case-form : (f : Form) → FormCase b m f → f ≡ admittedForm b m
-  unfolding admittedForm
-  case-form f (form-unsound s) = rw s
-  case-form f (form-sound s e) = rw (s, e)
+  abbrev pub FormCase : Form → Type 0
+  FormCase f = AdmitCase b (formOf m) (Refused UnsoundBook) f
 
-  pub form-case : (f : Form) → f ≡ admittedForm b m → FormCase b m f
+  pub case-form : (f : Form) → FormCase f → f ≡ admittedForm b m
   unfolding admittedForm
-  form-case f e = on (sound b) refl e
-    where
-      on : (t : Bool) → sound b ≡ t → f ≡ cond t (formOf m) (Refused UnsoundBook) → FormCase b m f
-      on true s e = form-sound s (sym e)
-      on false s e = rw e (form-unsound s)
+  case-form = case-admitted b (formOf m) (Refused UnsoundBook)
+
+  pub form-case : (f : Form) → f ≡ admittedForm b m → FormCase f
+  unfolding admittedForm
+  form-case = admitted-case b (formOf m) (Refused UnsoundBook)
 
   -- what is said is what the form says
   pub form-said : (f : Form) → f ≡ admittedForm b m → formSays m f ≡ admittedSaid b m
   form-said f e = case-said (formSays m f) (on f (form-case f e))
     where
-      on : (f : Form) → FormCase b m f → SaidCase b m (formSays m f)
-      on f (form-unsound s) = said-unsound s
-      on f (form-sound s e) = said-sound s (form-says .said m ∙ ap (formSays m) e)
+      on : (f : Form) → FormCase f → SaidCase (formSays m f)
+      on f (unsound-book s) = unsound-book s
+      on f (sound-book s e) = sound-book s (form-says .said m ∙ ap (formSays m) e)
 
   -- whoever passes is on a sound book
   pub full-passed : (a : Auth) → Full a ≡ admittedForm b m → (sound b ≡ true) × (formOf m ≡ Full a)
   full-passed a e = on (form-case (Full a) e)
     where
-      on : FormCase b m (Full a) → (sound b ≡ true) × (formOf m ≡ Full a)
-      on (form-sound s f) = (s, f)
+      on : FormCase (Full a) → (sound b ≡ true) × (formOf m ≡ Full a)
+      on (sound-book s f) = (s, f)
 
 -- ---- a row that was found on a sound book
 
@@ -100,4 +105,4 @@ pub said-facts : (b : Book) (m : List ℕ) (c id k : ℕ) (mac : List ℕ) → s
 said-facts b m c id k mac e f = on (said-case b m (says c id mac) e)
   where
     on : SaidCase b m (says c id mac) → RowFacts b k
-    on (said-sound s g) = row-facts b id k s f
+    on (sound-book s g) = row-facts b id k s f

@@ -28,7 +28,7 @@ use Rattle.delayed_auth.specs.Admit.{admittedSaid, admittedForm}
 use Rattle.delayed_auth.specs.Key.{keyedOf}
 use Rattle.delayed_auth.specs.Check.{checkOf}
 use Rattle.delayed_auth.specs.Seal.{counterMost, Outcome, sealed, unsealed, outcomeBy, planOf, sealOf}
-use Rattle.delayed_auth.proofs.Admits.{SaidCase, said-unsound, said-sound, case-said, said-case, FormCase, form-unsound, form-sound, case-form, form-case}
+use Rattle.delayed_auth.proofs.Admits.{unsound-book, sound-book, SaidCase, case-said, said-case, FormCase, case-form, form-case}
 use Rattle.delayed_auth.proofs.Judging as judging
 use Rattle.delayed_auth.proofs.Naming as naming
 use Rattle.delayed_auth.proofs.Plans.{PlanCase, plan-refused, plan-unknown, plan-spent, plan-ready, plan-case, case-plan, seal-planned}
@@ -52,25 +52,25 @@ module _ (b : Book) where
 
   module _ (m : List ℕ) where
     tell-unsound : (Sound b → ⊥) → refused UnsoundBook ≡ admittedSaid b m
-    tell-unsound h = case-said b m _ (said-unsound (unsound h))
+    tell-unsound h = case-said b m _ (unsound-book (unsound h))
 
     tell : (x : Said) → Sound b → saidOf m ≡ x → x ≡ admittedSaid b m
-    tell x s e = case-said b m x (said-sound (sound-says b .1 s) e)
+    tell x s e = case-said b m x (sound-book (sound-says b .1 s) e)
 
     told : (c id : ℕ) (mac : List ℕ) → says c id mac ≡ admittedSaid b m → Sound b × (saidOf m ≡ says c id mac)
     told c id mac e = on (said-case b m (says c id mac) e)
       where
         on : SaidCase b m (says c id mac) → Sound b × (saidOf m ≡ says c id mac)
-        on (said-sound s f) = (sound-says b .0 s, f)
+        on (sound-book s f) = (sound-says b .0 s, f)
 
     tell-form : (f : Form) → Sound b → formOf m ≡ f → f ≡ admittedForm b m
-    tell-form f s e = case-form b m f (form-sound (sound-says b .1 s) e)
+    tell-form f s e = case-form b m f (sound-book (sound-says b .1 s) e)
 
     told-form : (a : Auth) → Full a ≡ admittedForm b m → Sound b × (formOf m ≡ Full a)
     told-form a e = on (form-case b m (Full a) e)
       where
         on : FormCase b m (Full a) → Sound b × (formOf m ≡ Full a)
-        on (form-sound s f) = (sound-says b .0 s, f)
+        on (sound-book s f) = (sound-says b .0 s, f)
 
 -- ---- a check
 
@@ -88,8 +88,8 @@ module _ (b : Book) (m : List ℕ) where
   check-end = on (checkOf b m) (judging.check-case b m)
     where
       early : (r : Refusal) → SaidCase b m (refused r) → CheckEnd b m (Refused r)
-      early r (said-unsound s) = check-unsound (not-sound b s)
-      early r (said-sound s e) = check-refused (sound-says b .0 s) e
+      early r (unsound-book s) = check-unsound (not-sound b s)
+      early r (sound-book s e) = check-refused (sound-says b .0 s) e
 
       on : (v : Verdict) → judging.CheckCase b m v → CheckEnd b m v
       on v (judging.check-refused {r} e) = early r (said-case b m (refused r) e)
@@ -134,8 +134,8 @@ module _ (b : Book) (m : List ℕ) where
   key-end = on (keyedOf b m) (naming.key-case b m)
     where
       early : (r : Refusal) → SaidCase b m (refused r) → KeyEnd b m (NoKey r)
-      early r (said-unsound s) = key-unsound (not-sound b s)
-      early r (said-sound s e) = key-refused (sound-says b .0 s) e
+      early r (unsound-book s) = key-unsound (not-sound b s)
+      early r (sound-book s e) = key-refused (sound-says b .0 s) e
 
       on : (v : Keyed) → naming.KeyCase b m v → KeyEnd b m v
       on v (naming.key-refused {r} e) = early r (said-case b m (refused r) e)
@@ -186,8 +186,8 @@ module _ (b : Book) (id : ℕ) (m : List ℕ) where
   seal-end = rw (← (seal-planned b id m (planOf b id m) refl)) (on (planOf b id m) (plan-case b id m))
     where
       early : (r : Refusal) → FormCase b m (FormRefused r) → SealEnd b id m (unsealed r)
-      early r (form-unsound s) = seal-unsound (not-sound b s)
-      early r (form-sound s e) = seal-refused (sound-says b .0 s) e
+      early r (unsound-book s) = seal-unsound (not-sound b s)
+      early r (sound-book s e) = seal-refused (sound-says b .0 s) e
 
       on : (p : _) → PlanCase b id m p → SealEnd b id m (outcomeBy b id m p)
       on p (plan-refused {r} e) = early r (form-case b m (FormRefused r) e)
@@ -201,7 +201,7 @@ module _ (b : Book) (id : ℕ) (m : List ℕ) where
   planned {p} c = sym (seal-planned b id m p (case-plan b id m p c))
 
   pub end-seal : (o : Outcome) → SealEnd b id m o → sealOf b id m ≡ o
-  end-seal o (seal-unsound h) = planned (plan-refused (case-form b m _ (form-unsound (unsound b h))))
+  end-seal o (seal-unsound h) = planned (plan-refused (case-form b m _ (unsound-book (unsound b h))))
   end-seal o (seal-refused {r} s e) = planned (plan-refused (tell-form b m (FormRefused r) s e))
   end-seal o (seal-unknown a s e f) = planned (plan-unknown (tell-form b m (Full a) s e) f)
   end-seal o (seal-spent a k s e f h) = planned (plan-spent (tell-form b m (Full a) s e) f h)
