@@ -63,9 +63,9 @@ check-same a b m n w said image = end-check b n (checkOf a m) (same (checkOf a m
     same v (check-unsound h) = check-unsound (unsound-too a b (w .secrets) h)
     same v (check-refused s e) = check-refused (good s) (said ∙ e)
     same v (check-unknown c id mac s e f) = check-unknown c id mac (good s) (said ∙ e) (row-too a b (w .secrets) id none f)
-    same v (check-replay c k mac s x h) = check-replay c k mac (good s) (claims x) (rw (w .received k s (names x)) at h)
+    same v (check-replay c k mac s x h) = check-replay c k mac (good s) (claims x) (omega (arith, w .received k s (names x)))
     same v (check-wrong c k mac s x h g) =
-        check-wrong c k mac (good s) (claims x) (rw (w .received k s (names x)) at h) (rw (w .key k s (names x), ← image) at g)
+        check-wrong c k mac (good s) (claims x) (omega (arith, w .received k s (names x))) (rw (w .key k s (names x), ← image) at g)
     same v (check-accepts {k} {c} s x) =
         let claim : Claims a m c k (x .mac) = record { id = x .id; form = x .form; secret = x .secret } in
         check-accepts (good s) (record {
@@ -73,7 +73,7 @@ check-same a b m n w said image = end-check b n (checkOf a m) (same (checkOf a m
           mac = x .mac;
           form = said ∙ x .form;
           secret = claims claim .secret;
-          above = rw (w .received k s (names claim)) at (x .above);
+          above = omega (arith, x .above, w .received k s (names claim));
           right = rw (w .key k s (names claim), ← image) at (x .right);
         })
 

@@ -1,6 +1,6 @@
 -- The book against its history, proved. One step adds a counter above the row's to the accepted ones and stores it, or adds none and leaves
 -- the row's; so along a run the stored counter is the last of them. That other secrets are not seen is proofs/Runs.antt for two starts.
-use mathlib.Core.Path.{_≡_, refl, sym, ap, _∙_}
+use mathlib.Core.Path.{_≡_, refl, sym, ap, ap₂, _∙_}
 use mathlib.Core.Logic.{_≢_}
 use mathlib.Core.Option.{Option, none, some, Option·none-ne-some, Option·some-injective}
 use mathlib.Core.List.{List, [], _∷_, _++_}
@@ -155,10 +155,10 @@ module _ (a b : Book) (sa : Sound a) (sb : Sound b) (id : ℕ) (w : OnlyOthersDi
   put-in p l f = absurd (f p l refl)
 
   its-received : (k : ℕ) → rowOf a id ≡ some k → holds (receives k) a ≡ holds (receives k) b
-  its-received k e = rw (w .key k e, w .received k e)
+  its-received k e = ap₂ (λ (key : List ℕ) (n : ℕ). (key, n)) (w .key k e) (w .received k e)
 
   its-sent : (k : ℕ) → rowOf a id ≡ some k → holds (sends k) a ≡ holds (sends k) b
-  its-sent k e = rw (w .key k e, w .sent k e)
+  its-sent k e = ap₂ (λ (key : List ℕ) (n : ℕ). (key, n)) (w .key k e) (w .sent k e)
 
   starts : (s : Step) → Concerns id s → (c : Channel) → channel a s ≡ some c → holds c a ≡ holds c b
   starts s (names-it {m = m} e) c f = let x = check-channel a m id c e f in rw (x .1) (its-received (x .0) (x .2))
