@@ -5,7 +5,7 @@
 // The book is lent as ids, key lengths, key store, received counters, sent counters and row count, in this order.
 ghost use mathlib.Core.Path.{_≡_};
 ghost use Rattle.key_book.specs.Book.{bookOf};
-ghost use Rattle.file_verdict.specs.Files.{fileIn, MayBeJudged, loadedOf, rowsLoaded, bookLoaded, messageLine, receivedLeft, afterRead};
+ghost use Rattle.file_verdict.specs.Files.{fileIn, MayBeJudged, loadedOf, rowsLoaded, bookLoaded, verdictLine, messageLine, receivedLeft, afterRead};
 use book_card::ReadAnswer;
 use delayed_auth::Verdict;
 use verdict_line::Line;
@@ -104,6 +104,16 @@ pub fn load_card(
     }
 }
 
+// The line for what a check said.
+pub fn line_of(verdict: Verdict) -> Line
+    ensures { λ r. ⌜ r ≡ verdictLine verdict ⌝ }
+{
+    match verdict {
+        Verdict::Accepted(row, counter) => Line::Accepted(row, counter),
+        Verdict::Refused(refusal) => Line::Refused(refusal),
+    }
+}
+
 // The line for a message, which is checked by the lent book.
 pub fn message_line(
     content: Content,
@@ -129,8 +139,5 @@ pub fn message_line(
         return Line::Unreadable;
     };
     let verdict = delayed_auth::check(ids, lengths, store, received, sent, rows, &room[..size]);
-    match verdict {
-        Verdict::Accepted(row, counter) => Line::Accepted(row, counter),
-        Verdict::Refused(refusal) => Line::Refused(refusal),
-    }
+    line_of(verdict)
 }

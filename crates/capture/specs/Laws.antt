@@ -1,0 +1,2 @@
+-- laws
+use Prim.Native.Nat.{ℕ}

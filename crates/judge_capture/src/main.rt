@@ -1,0 +1,261 @@
+// Judges the recording in the file `church.pcap`, a classic capture of any size, by the key book on the card in the file `book.card`, both in the
+// current folder, and writes a line for each record (verdict_line): docs/RULES.md, 'A recording'.
+// The card is judged before the recording is looked at. Neither file is changed.
+// Here are the reads and writes: of the file only a window is in the room, and the lines wait in a room of their own until it is nearly full. What the
+// bytes mean is decided in capture and capture_verdict.
+ghost use mathlib.Core.Path.{_≡_};
+ghost use Prim.Native.Nat.{_+_, _-_, _≤_, _<_};
+ghost use lib.ListN.{length};
+ghost use Rattle.capture.specs.Layout.{frameMost};
+use capture::FILE_HEADER_SIZE;
+use capture::FileHeader;
+use capture::Order;
+use capture::RECORD_HEADER_SIZE;
+use capture::RecordHeader;
+use file_verdict::Content;
+use file_verdict::Loaded;
+use file_verdict::Progress;
+use key_book::ROWS_MOST;
+use key_book::SLOT_SIZE;
+use libc::STDOUT_FILENO;
+use verdict_line::Line;
+use verdict_line::NUMBERED_MOST;
+
+// The room for the window of the file, and the room for the lines.
+const ROOM: usize = 65536;
+
+// What was gathered of the file.
+enum Gathered {
+    // At least as many bytes as were wanted: the window is from the first offset to the second.
+    Window(usize, usize),
+    // The file ended before; so many bytes of it are left.
+    Ended(usize),
+    // A read failed.
+    Failed,
+}
+
+// The file's next record.
+enum Next {
+    // Its frame starts at the first offset and ends before the second, of so many bytes that it had; the window ends at the last number.
+    Record(usize, usize, usize, usize),
+    // There is none.
+    AtEnd,
+    // The file is cut.
+    Cut,
+}
+
+// What opening the recording gives.
+enum Opening {
+    Unreadable,
+    // A capture with numbers in this order; the window behind its header ends at this offset.
+    Capture(Order, usize),
+}
+
+// Moves the window to the room's front, and returns its size.
+fn move_front(room: &mut [u8], from: usize, have: usize) -> usize {
+    let size = have - from;
+    let mut i: usize = 0;
+    while i < size {
+        room[i] = room[from + i];
+        i += 1;
+    }
+    size
+}
+
+// What it means that the file ended here.
+fn ended(content: Content) -> Gathered {
+    match content {
+        Content::Unreadable => Gathered::Failed,
+        Content::Size(left) => Gathered::Ended(left),
+    }
+}
+
+// Reads until the window, which is at the room's front, has as many bytes as are wanted.
+fn fill(fd: i32, room: &mut [u8], have: usize, want: usize) -> Gathered {
+    let mut size = have;
+    while size < want {
+        let progress = program_files::read_more(fd, room, size);
+        match progress {
+            Progress::Ended(content) => return ended(content),
+            Progress::More(more) => size = more,
+        }
+    }
+    Gathered::Window(0, size)
+}
+
+// Sees to it that the window has as many bytes as are wanted.
+fn gather(fd: i32, room: &mut [u8], from: usize, have: usize, want: usize) -> Gathered {
+    if want <= have - from {
+        return Gathered::Window(from, have);
+    }
+    let size = move_front(room, from, have);
+    fill(fd, room, size, want)
+}
+
+// Gathers a frame of so many bytes, which had `original`.
+fn gather_frame(
+    fd: i32,
+    room: &mut [u8],
+    from: usize,
+    have: usize,
+    captured: usize,
+    original: usize,
+) -> Next {
+    let gathered = gather(fd, room, from, have, captured);
+    let Gathered::Window(at, end) = gathered else {
+        return Next::Cut;
+    };
+    Next::Record(at, at + captured, original, end)
+}
+
+// Takes the header of the next record, and gathers its frame.
+fn next_record(fd: i32, order: Order, room: &mut [u8], from: usize, have: usize) -> Next {
+    let gathered = gather(fd, room, from, have, RECORD_HEADER_SIZE);
+    match gathered {
+        Gathered::Failed => Next::Cut,
+        Gathered::Ended(left) => {
+            if left == 0 {
+                return Next::AtEnd;
+            }
+            Next::Cut
+        }
+        Gathered::Window(at, end) => {
+            let behind = at + RECORD_HEADER_SIZE;
+            let header = capture::record_header(order, &room[at..behind]);
+            let RecordHeader::Frame(captured, original) = header else {
+                return Next::Cut;
+            };
+            gather_frame(fd, room, behind, end, captured, original)
+        }
+    }
+}
+
+// Adds a record's line to those that wait.
+fn add_line(out: &mut [u8], size: usize, number: u64, line: Line) -> usize {
+    size + verdict_line::write_numbered(&mut out[size..], number, line)
+}
+
+// Writes the lines that wait and, where the file is cut, the line that says so.
+fn finish(out: &mut [u8], size: usize, cut: bool) {
+    let mut end = size;
+    if cut {
+        end = size + verdict_line::write_line(&mut out[size..], Line::Cut);
+    }
+    io::write_all(STDOUT_FILENO, &out[..end]);
+}
+
+// Judges the records of a capture, of which the room holds the window behind the file's header. A write that fails ends it.
+fn judge_records(
+    fd: i32,
+    order: Order,
+    room: &mut [u8],
+    first: usize,
+    ids: &[u32],
+    lengths: &[u8],
+    store: &[u8],
+    received: &mut [u64],
+    sent: &[u64],
+    rows: usize,
+) {
+    let mut out = [0u8; ROOM];
+    let mut size: usize = 0;
+    let mut number: u64 = 0;
+    let mut from = FILE_HEADER_SIZE;
+    let mut have = first;
+    while number < u64::MAX {
+        let next = next_record(fd, order, room, from, have);
+        match next {
+            Next::AtEnd => {
+                finish(&mut out, size, false);
+                return;
+            }
+            Next::Cut => {
+                finish(&mut out, size, true);
+                return;
+            }
+            Next::Record(at, end, original, window) => {
+                number += 1;
+                let line = capture_verdict::record_line(
+                    &room[at..end],
+                    original,
+                    ids,
+                    lengths,
+                    store,
+                    received,
+                    sent,
+                    rows,
+                );
+                size = add_line(&mut out, size, number, line);
+                from = end;
+                have = window;
+            }
+        }
+        if ROOM - NUMBERED_MOST < size {
+            if !io::write_all(STDOUT_FILENO, &out[..size]) {
+                return;
+            }
+            size = 0;
+        }
+    }
+    finish(&mut out, size, false);
+}
+
+// Looks at the header of an open file.
+fn open_capture(fd: i32, room: &mut [u8]) -> Opening {
+    let gathered = fill(fd, room, 0, FILE_HEADER_SIZE);
+    let Gathered::Window(at, have) = gathered else {
+        return Opening::Unreadable;
+    };
+    let header = capture::file_header(room);
+    match header {
+        FileHeader::Other => Opening::Unreadable,
+        FileHeader::Ethernet(order) => Opening::Capture(order, have),
+    }
+}
+
+fn write_unreadable() {
+    let mut out = [0u8; NUMBERED_MOST];
+    let size = verdict_line::write_line(&mut out, Line::Unreadable);
+    io::write_all(STDOUT_FILENO, &out[..size]);
+}
+
+fn main() {
+    let mut ids = [0u32; ROWS_MOST];
+    let mut lengths = [0u8; ROWS_MOST];
+    let mut store = [0u8; ROWS_MOST * SLOT_SIZE];
+    let mut received = [0u64; ROWS_MOST];
+    let mut sent = [0u64; ROWS_MOST];
+    let loaded = program_files::load_book(
+        &mut ids,
+        &mut lengths,
+        &mut store,
+        &mut received,
+        &mut sent,
+    );
+    let Loaded::Rows(rows) = loaded else {
+        write_unreadable();
+        return;
+    };
+    let mut room = [0u8; ROOM];
+    let fd = os::open_read(b"church.pcap");
+    if fd < 0 {
+        write_unreadable();
+        return;
+    }
+    let opening = open_capture(fd, &mut room);
+    match opening {
+        Opening::Unreadable => write_unreadable(),
+        Opening::Capture(order, have) => judge_records(
+            fd,
+            order,
+            &mut room,
+            have,
+            &ids,
+            &lengths,
+            &store,
+            &mut received,
+            &sent,
+            rows,
+        ),
+    }
+}
