@@ -1,17 +1,22 @@
 -- One turn of the loop that reads a file, by the law of file_verdict: the progress that was answered, and the case of it that was met.
 use Prim.Native.Nat.{ℕ, _≤_, _<_}
-use mathlib.Core.Path.{_≡_}
-use lib.IntN.{ℤ}
+use mathlib.Core.Path.{_≡_, refl}
+use lib.IntN.{ℤ, negsuc}
 use Rattle.file_verdict.specs.declared.Content.{Content}
+use Rattle.file_verdict.specs.declared.Content.the-variants.{Unreadable}
 use Rattle.file_verdict.specs.declared.Progress.{Progress}
 use Rattle.file_verdict.specs.declared.Progress.the-variants.{Ended, More}
 use Rattle.file_verdict.specs.Files.{afterRead, EndSeen}
-use Rattle.file_verdict.proofs.Reading.{ReadTurn, read-turn}
-use Rattle.judge.specs.Program.{ReadMeans}
+use Rattle.file_verdict.proofs.Reading.{ReadTurn, read-failed, read-turn}
+use Rattle.program_files.specs.Reads.{ReadMeans}
 
 -- the room has kept its length
 pub read-meant : {have room : ℕ} (now : ℕ) (got : ℤ) {progress : Progress} → now ≡ room → progress ≡ afterRead have now got → ReadMeans have room progress
 read-meant now got long e = record { got = got; means = rw (← long) e }
+
+-- a room that is full gets no more: as if a read had failed
+pub room-full : {have room : ℕ} → ReadMeans have room (Ended Unreadable)
+room-full {have} {room} = record { got = negsuc 0; means = read-failed have room (negsuc 0) refl }
 
 module _ {have now room : ℕ} {progress : Progress} (meant : ReadMeans have now progress) (long : now ≡ room) (h : have < room) where
   turn : ReadTurn have room progress
