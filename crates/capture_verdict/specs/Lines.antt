@@ -44,6 +44,11 @@ abbrev pub recordLines : Book → List Record → List Line
 recordLines b [] = []
 recordLines b (r ∷ rs) = recordLine b (r .frame) (r .original) ∷ recordLines (bookBy b (r .frame) (r .original)) rs
 
+-- the book afterwards
+abbrev pub bookAtEnd : Book → List Record → Book
+bookAtEnd b [] = b
+bookAtEnd b (r ∷ rs) = bookAtEnd (bookBy b (r .frame) (r .original)) rs
+
 -- the lines as they are written, with their numbers from n on
 abbrev pub numbered : ℕ → List Line → List (List ℕ)
 numbered n [] = []

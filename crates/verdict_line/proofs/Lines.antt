@@ -1,6 +1,6 @@
 -- The whole line: its length, how it is made of its pieces, and where it fits. The laws of `acceptedLine`, `refusedLine`, `numberedLine`, `sizeIn` and
 -- `outAfter`.
-use mathlib.Core.Path.{_≡_, refl, ap, ap₂, _∙_}
+use mathlib.Core.Path.{_≡_, refl, sym, ap, ap₂, _∙_}
 use mathlib.Core.Bool.{Bool, true, false, cond}
 use mathlib.Core.List.{List}
 use Prim.Native.Nat.{ℕ, _+_, _≤_, _<_, _^_}
@@ -9,6 +9,7 @@ use native.Mathlib.Omega.{arith}
 use borrow.Author.Tests.{le-leb, lt-leb, leb-true}
 use lib.Dec.{leb}
 use lib.ListN.{length, take, length-append}
+use lib.Seq.{length-take-le}
 use Rattle.verdict_line.specs.Decimal.{decimal}
 use Rattle.verdict_line.specs.Line.{lineMost, numberedMost, acceptedRow, counterWord, refusedWord, space, newline}
 use Rattle.verdict_line.specs.Line.{acceptedLine, refusedLine, lineOf, numberedLine}
@@ -78,6 +79,13 @@ size-fits line room = on (leb (length line) room) refl
     on : (t : Bool) → leb (length line) room ≡ t → cond t (length line) 0 ≤ room
     on true e = leb-true (length line) room e
     on false e = omega arith
+
+module _ (line : List ℕ) (room : ℕ) {n : ℕ} (e : n ≡ sizeIn line room) where
+  pub line-within : n ≤ room
+  line-within = rw e (size-fits line room)
+
+  pub line-taken : (bytes : List ℕ) → length bytes ≡ room → n ≡ length (take n bytes)
+  line-taken bytes l = let w = line-within in sym (length-take-le n bytes (omega arith))
 
 -- a room that is large enough takes all of it
 pub size-whole : (line : List ℕ) (room : ℕ) → length line ≤ room → sizeIn line room ≡ length line
