@@ -1,3 +1,4 @@
 pub mod Computed
 pub mod Headers
 pub mod Records
+pub mod Frames
