@@ -2,11 +2,11 @@
 -- The only law file that unfolds these four.
 use Prim.Native.Nat.{ℕ, _+_, _≤_, _<_}
 use mathlib.Core.Path.{_≡_, refl, sym, ap, _∙_, subst}
-use mathlib.Core.Logic.{_≢_}
+use mathlib.Core.Logic.{_≢_, _⊎_, inl, inr}
 use mathlib.Core.Bool.{Bool, true, false, cond}
 use mathlib.Core.List.{List, _++_}
 use native.Mathlib.Omega.{arith}
-use borrow.Author.Tests.{eqb-true, eq-eqb, ne-eqb, ltb-false, lt-ltb, le-ltb}
+use borrow.Author.Tests.{eqb-true, eq-eqb, ne-eqb, ltb-true, ltb-false, lt-ltb, le-ltb}
 use lib.Dec.{ltb, eqb}
 use lib.ListN.{length, drop, length-append}
 use Rattle.octets.specs.Bytes.{Bytes}
@@ -19,9 +19,10 @@ use Rattle.capture.specs.declared.Order.{Order}
 use Rattle.capture.specs.declared.Order.the-variants.{LowFirst, HighFirst}
 use Rattle.capture.specs.declared.FileHeader.{FileHeader}
 use Rattle.capture.specs.declared.FileHeader.the-variants.{Other, Ethernet}
+use Rattle.capture.specs.declared.RecordHeader.{RecordHeader}
 use Rattle.capture.specs.declared.RecordHeader.the-variants.{Cut, Frame}
 use Rattle.capture.specs.Records.{numberAt, isEthernet, fileHeaderOf, recordHeaderOf}
-use Rattle.capture.specs.Laws.{IsCapture, HeaderSays}
+use Rattle.capture.specs.Laws.{IsCapture, HeaderSays, IsRecord, RecordHeaderSays}
 
 -- ---- a number
 
@@ -157,3 +158,43 @@ module _ (s : List ℕ) where
 
 pub header-says : HeaderSays
 header-says s b order = (λ e. subst (Told s) e (told s), capture-read s b order)
+
+-- ---- what a record's header says
+
+module _ (order : Order) (s : List ℕ) where
+  abbrev RecordTold : RecordHeader → Type 0
+  RecordTold Cut = (length s < recordHeaderSize) ⊎ (frameMost < numberAt order s capturedAt)
+  RecordTold (Frame captured original) = IsRecord order s captured original
+
+  record-told : RecordTold (recordHeaderOf order s)
+  unfolding recordHeaderOf
+  record-told = by (ltb (length s) recordHeaderSize) (ltb frameMost (numberAt order s capturedAt)) refl refl
+    where
+      by : (t u : Bool) → ltb (length s) recordHeaderSize ≡ t → ltb frameMost (numberAt order s capturedAt) ≡ u
+          → RecordTold (cond t Cut (cond u Cut (Frame (numberAt order s capturedAt) (numberAt order s originalAt))))
+      by true u ht hu = inl (ltb-true _ recordHeaderSize ht)
+      by false true ht hu = inr (ltb-true frameMost _ hu)
+      by false false ht hu =
+          record {
+            header-there = ltb-false _ recordHeaderSize ht;
+            captured-length = refl;
+            captured-most = ltb-false frameMost _ hu;
+            original-length = refl;
+          }
+
+  record-read : {captured original : ℕ} → IsRecord order s captured original → recordHeaderOf order s ≡ Frame captured original
+  record-read r = sym (record-frame order s (r .header-there) _ (sym (r .captured-length)) (r .captured-most) _ (sym (r .original-length)))
+
+  cut-read : (length s < recordHeaderSize) ⊎ (frameMost < numberAt order s capturedAt) → recordHeaderOf order s ≡ Cut
+  cut-read (inl h) = sym (record-short order s h)
+  cut-read (inr h) = by (recordHeaderOf order s) refl record-told
+    where
+      by : (r : RecordHeader) → recordHeaderOf order s ≡ r → RecordTold r → recordHeaderOf order s ≡ Cut
+      by Cut e t = e
+      by (Frame captured original) e t = absurd (let l = t .captured-length in let m = t .captured-most in omega arith)
+
+pub record-header-says : RecordHeaderSays
+record-header-says = record {
+  record-there = λ order s captured original. (λ e. subst (RecordTold order s) e (record-told order s), record-read order s);
+  cut-there = λ order s. (λ e. subst (RecordTold order s) e (record-told order s), cut-read order s);
+}

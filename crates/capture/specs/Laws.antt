@@ -13,7 +13,8 @@ use Rattle.capture.specs.Layout.{etherTypeAt, ipHeaderLeast, ipVersion, 
 use Rattle.capture.specs.Layout.{udpHeaderSize, sourceAt, destinationAt, lengthAt, serverPort, clientPort}
 use Rattle.capture.specs.declared.Order.{Order}
 use Rattle.capture.specs.declared.FileHeader.the-variants.{Other, Ethernet}
-use Rattle.capture.specs.Records.{numberAt, fileHeaderOf, atEnd, cutHere, before, recordsFrom, recordsOf}
+use Rattle.capture.specs.declared.RecordHeader.the-variants.{Cut, Frame}
+use Rattle.capture.specs.Records.{numberAt, fileHeaderOf, recordHeaderOf, atEnd, cutHere, before, recordsFrom, recordsOf}
 use Rattle.capture.specs.Frame.{payloadOf}
 
 -- ---- the file's header
@@ -26,6 +27,20 @@ pub record IsCapture (order : Order) (s : List ℕ) : Type 0 where
 
 abbrev pub HeaderSays : Type 0
 HeaderSays = (s : List ℕ) → Bytes s → (order : Order) → (fileHeaderOf s ≡ Ethernet order) ↔ IsCapture order s
+
+-- ---- a record's header
+
+-- the bytes begin with a record's header that gives these lengths
+pub record IsRecord (order : Order) (s : List ℕ) (captured original : ℕ) : Type 0 where
+  pub header-there : recordHeaderSize ≤ length s
+  pub captured-length : numberAt order s capturedAt ≡ captured
+  pub captured-most : captured ≤ frameMost
+  pub original-length : numberAt order s originalAt ≡ original
+
+pub record RecordHeaderSays : Type 0 where
+  pub record-there : (order : Order) (s : List ℕ) (captured original : ℕ) → (recordHeaderOf order s ≡ Frame captured original) ↔ IsRecord order s captured original
+  pub cut-there : (order : Order) (s : List ℕ)
+      → (recordHeaderOf order s ≡ Cut) ↔ ((length s < recordHeaderSize) ⊎ (frameMost < numberAt order s capturedAt))
 
 -- ---- the records
 
