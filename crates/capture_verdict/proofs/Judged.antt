@@ -1,0 +1,40 @@
+-- One record, by whether it has a payload: its line, the received counters and the book afterwards. The only law file that unfolds `recordLine` and
+-- `receivedBy`.
+use Prim.Native.Nat.{ℕ}
+use mathlib.Core.Path.{_≡_, refl, sym, ap, _∙_}
+use mathlib.Core.List.{List}
+use mathlib.Core.Option.{none, some}
+use Rattle.key_book.specs.Book.{Book, bookOf}
+use Rattle.delayed_auth.specs.declared.Verdict.{Verdict}
+use Rattle.delayed_auth.specs.Check.{checkOf, receivedAfter}
+use Rattle.demands.specs.Demand3.{check, bookAfter}
+use Rattle.verdict_line.specs.declared.Line.{Line}
+use Rattle.verdict_line.specs.declared.Line.the-variants.{Skipped}
+use Rattle.file_verdict.specs.Files.{verdictLine}
+use Rattle.capture.specs.Frame.{payloadOf}
+use Rattle.capture_verdict.specs.Lines.{recordLine, receivedBy, bookBy}
+
+module _ (b : Book) (frame : List ℕ) (original : ℕ) where
+  module _ (e : payloadOf frame original ≡ none) where
+    pub line-skipped : Skipped ≡ recordLine b frame original
+    unfolding recordLine
+    line-skipped = rw e
+
+    pub received-kept : b .received ≡ receivedBy b frame original
+    unfolding receivedBy
+    received-kept = rw e
+
+    pub book-kept : bookBy b frame original ≡ b
+    book-kept = rw (sym received-kept)
+
+  module _ {message : List ℕ} (e : payloadOf frame original ≡ some message) where
+    pub line-judged : verdictLine (checkOf b message) ≡ recordLine b frame original
+    unfolding recordLine
+    line-judged = rw e
+
+    pub received-judged : receivedAfter (checkOf b message) (b .received) ≡ receivedBy b frame original
+    unfolding receivedBy
+    received-judged = rw e
+
+    pub book-judged : bookBy b frame original ≡ bookAfter b (check message)
+    book-judged = rw (sym received-judged)
