@@ -1,20 +1,22 @@
 -- What the tests on a frame mean: for each a record of facts, which holds where the test is true and only there. So a frame is refused where a fact of
 -- the record fails. The only law file that unfolds the definitions of specs/Frame.antt.
 use Prim.Native.Nat.{ℕ, _+_, _-_, _/_, _%_, _≤_}
-use mathlib.Core.Path.{_≡_, refl, ap}
-use mathlib.Core.Logic.{_↔_, _⊎_, inl, inr, ⊎-elim}
-use mathlib.Core.Bool.{Bool, true, false, cond, _&&_, _||_, false≢true, and-eq-true-iff}
+use mathlib.Core.Path.{_≡_, refl, sym, ap, _∙_}
+use mathlib.Core.Logic.{_↔_, _≢_, _⊎_, inl, inr, ⊎-elim}
+use mathlib.Core.Bool.{Bool, true, false, cond, not, _&&_, _||_, true≢false, false≢true, and-eq-true-iff}
 use mathlib.Core.List.{List}
 use mathlib.Core.Option.{none, some}
 use native.Mathlib.Omega.{arith}
-use borrow.Author.Tests.{le-leb, leb-true, eq-eqb, eqb-true}
+use borrow.Author.Tests.{le-leb, leb-true, eq-eqb, ne-eqb, eqb-true, not-true, not-false}
 use lib.Dec.{leb, eqb}
 use lib.ListN.{length, getD, take, drop}
-use Rattle.capture.specs.Layout.{etherTypeAt, etherIpv4, packetAt, ipHeaderLeast, ipVersion, fragmentAt, fragmentBelow, protocolAt, udp}
-use Rattle.capture.specs.Layout.{udpHeaderSize, sourceAt, destinationAt}
+use Rattle.octets.specs.Numbers.{bigAt}
+use Rattle.capture.specs.Layout.{fieldSize, etherTypeAt, etherIpv4, packetAt, ipHeaderLeast, ipVersion, fragmentAt, fragmentBelow, protocolAt, udp}
+use Rattle.capture.specs.Layout.{udpHeaderSize, sourceAt, destinationAt, serverPort, clientPort}
 use Rattle.capture.specs.Laws.{DhcpPort}
 use Rattle.capture.specs.Frame.{fieldAt, isWholeUdp, headerLength, totalLength, lengthsFit, udpLength, isDhcpPort, isDhcp, datagramPlace}
 use Rattle.capture.specs.Frame.{placeOf, bytesAt, payloadOf}
+use Rattle.capture.specs.declared.Payload.{Payload}
 use Rattle.capture.specs.declared.Payload.the-variants.{Skipped, At}
 
 -- ---- tests and facts
@@ -32,6 +34,18 @@ either-says false b p q = (λ e. inr (q .0 e), ⊎-elim (λ x. absurd (false≢t
 refuted : {P : Type 0} (t : Bool) → (t ≡ true) ↔ P → (P → ⊥) → t ≡ false
 refuted true s n = absurd (n (s .0 refl))
 refuted false s n = refl
+
+-- what a branch of the code on a test's answer knows
+module _ {P : Type 0} (t u : Bool) (s : (u ≡ true) ↔ P) (e : t ≡ u) where
+  pub denied : not t ≡ true → P → ⊥
+  denied h p = true≢false (sym (s .1 p) ∙ sym e ∙ not-true t h)
+
+  pub granted : not t ≡ false → P
+  granted h = s .0 (sym e ∙ not-false t h)
+
+pub field-is : (s : List ℕ) (at : ℕ) → bigAt s at fieldSize ≡ fieldAt s at
+unfolding fieldAt
+field-is s at = refl
 
 -- ---- the packet
 
@@ -54,6 +68,15 @@ module _ (frame : List ℕ) where
     λ w. simp (and-eq-true-iff, eqb-says) (((w .type, w .version), w .protocol), w .fragment),
   )
 
+  pub not-whole : (WholeUdp frame → ⊥) → false ≡ isWholeUdp frame
+  not-whole n = sym (refuted _ whole-udp-says n)
+
+  -- where the last test decides
+  pub whole-by-fragment : fieldAt frame etherTypeAt ≡ etherIpv4 → getD frame packetAt 0 / 16 ≡ ipVersion → getD frame (packetAt + protocolAt) 0 ≡ udp
+      → (fragment : ℕ) → fragment ≡ fieldAt frame (packetAt + fragmentAt) → eqb (fragment % fragmentBelow) 0 ≡ isWholeUdp frame
+  unfolding isWholeUdp
+  whole-by-fragment t v p fragment e = rw (e, eq-eqb _ _ t, eq-eqb _ _ v, eq-eqb _ _ p)
+
   lengths-say : (lengthsFit frame ≡ true) ↔ LengthsFit frame
   unfolding lengthsFit
   lengths-say = (
@@ -63,9 +86,17 @@ module _ (frame : List ℕ) where
 
 -- ---- the datagram
 
-pub port-says : (port : ℕ) → (isDhcpPort port ≡ true) ↔ DhcpPort port
-unfolding isDhcpPort
-port-says port = either-says _ _ (eqb-says _ _) (eqb-says _ _)
+module _ (port : ℕ) where
+  pub port-says : (isDhcpPort port ≡ true) ↔ DhcpPort port
+  unfolding isDhcpPort
+  port-says = either-says _ _ (eqb-says _ _) (eqb-says _ _)
+
+  pub server-port : port ≡ serverPort → true ≡ isDhcpPort port
+  server-port e = sym (port-says .1 (inl e))
+
+  pub other-port : port ≢ serverPort → eqb port clientPort ≡ isDhcpPort port
+  unfolding isDhcpPort
+  other-port n = rw (ne-eqb _ _ n)
 
 pub record Dhcp (frame : List ℕ) (at room : ℕ) : Type 0 where
   pub header-covered : udpHeaderSize ≤ udpLength frame at
@@ -84,9 +115,9 @@ module _ (frame : List ℕ) (at room : ℕ) where
     λ d. simp (and-eq-true-iff, leb-says, ports-say) ((d .header-covered, d .within), d .port),
   )
 
-  pub datagram-at : Dhcp frame at room → At (at + udpHeaderSize) (udpLength frame at - udpHeaderSize) ≡ datagramPlace frame at room
+  pub datagram-at : (size : ℕ) → size ≡ udpLength frame at → Dhcp frame at room → At (at + udpHeaderSize) (size - udpHeaderSize) ≡ datagramPlace frame at room
   unfolding datagramPlace
-  datagram-at d = rw (dhcp-says .1 d)
+  datagram-at size e d = rw (e, dhcp-says .1 d)
 
   pub datagram-skipped : (Dhcp frame at room → ⊥) → Skipped ≡ datagramPlace frame at room
   unfolding datagramPlace
@@ -99,48 +130,77 @@ pub record Fits (frame : List ℕ) (original : ℕ) : Type 0 where
   pub whole : WholeUdp frame
   pub lengths : LengthsFit frame
 
+module _ (frame : List ℕ) where
+  abbrev pub datagramAt : ℕ
+  datagramAt = packetAt + headerLength frame
+
+  abbrev pub datagramRoom : ℕ
+  datagramRoom = totalLength frame - headerLength frame
+
+  abbrev pub payloadAt : ℕ
+  payloadAt = datagramAt + udpHeaderSize
+
+  abbrev pub payloadSize : ℕ
+  payloadSize = udpLength frame datagramAt - udpHeaderSize
+
+pub record HasPayload (frame : List ℕ) (original : ℕ) : Type 0 where
+  pub fits : Fits frame original
+  pub dhcp : Dhcp frame (datagramAt frame) (datagramRoom frame)
+
+-- where it stands
+pub record Placed (frame : List ℕ) (original at size : ℕ) : Type 0 where
+  pub has : HasPayload frame original
+  pub at-is : payloadAt frame ≡ at
+  pub size-is : payloadSize frame ≡ size
+
+nested : (t u : Bool) (p q : Payload) → cond t (cond u p q) q ≡ cond (t && u) p q
+nested true u p q = refl
+nested false u p q = refl
+
 module _ (frame : List ℕ) (original : ℕ) where
-  fits-says : ((eqb (length frame) original && isWholeUdp frame && lengthsFit frame) ≡ true) ↔ Fits frame original
+  abbrev fitting : Bool
+  fitting = eqb (length frame) original && isWholeUdp frame && lengthsFit frame
+
+  abbrev carried : Bool
+  carried = isDhcp frame (datagramAt frame) (datagramRoom frame)
+
+  fits-says : (fitting ≡ true) ↔ Fits frame original
   fits-says = (
     λ e. let t = simp (and-eq-true-iff, eqb-says, whole-udp-says, lengths-say) at e in record { all-there = t .0 .0; whole = t .0 .1; lengths = t .1 },
     λ f. simp (and-eq-true-iff, eqb-says, whole-udp-says, lengths-say) ((f .all-there, f .whole), f .lengths),
   )
 
-  pub place-datagram : Fits frame original
-      → datagramPlace frame (packetAt + headerLength frame) (totalLength frame - headerLength frame) ≡ placeOf frame original
-  unfolding placeOf
-  place-datagram f = rw (fits-says .1 f)
+  payload-test : ((fitting && carried) ≡ true) ↔ HasPayload frame original
+  payload-test =
+      let both = and-eq-true-iff fitting carried in
+      let d = dhcp-says frame (datagramAt frame) (datagramRoom frame) in (
+        λ e. record { fits = fits-says .0 (both .0 e .0); dhcp = d .0 (both .0 e .1) },
+        λ h. both .1 (fits-says .1 (h .fits), d .1 (h .dhcp)),
+      )
 
-  pub place-skipped : (Fits frame original → ⊥) → Skipped ≡ placeOf frame original
-  unfolding placeOf
-  place-skipped n = rw (refuted _ fits-says n)
-
--- where it stands
-pub record Placed (frame : List ℕ) (original at size : ℕ) : Type 0 where
-  pub fits : Fits frame original
-  pub dhcp : Dhcp frame (packetAt + headerLength frame) (totalLength frame - headerLength frame)
-  pub at-is : packetAt + headerLength frame + udpHeaderSize ≡ at
-  pub size-is : udpLength frame (packetAt + headerLength frame) - udpHeaderSize ≡ size
-
-module _ (frame : List ℕ) (original at size : ℕ) where
-  placed : (t u : Bool) → (t ≡ true) ↔ Fits frame original
-      → (u ≡ true) ↔ Dhcp frame (packetAt + headerLength frame) (totalLength frame - headerLength frame)
-      → cond t (cond u (At (packetAt + headerLength frame + udpHeaderSize) (udpLength frame (packetAt + headerLength frame) - udpHeaderSize)) Skipped) Skipped
-      ≡ At at size
-      → Placed frame original at size
-  placed true true f d e = record { fits = f .0 refl; dhcp = d .0 refl; at-is = cc; size-is = cc }
-  placed true false f d e = absurd (let z : _≡_ {A = ℕ} 0 1 = cc in omega arith)
-  placed false u f d e = absurd (let z : _≡_ {A = ℕ} 0 1 = cc in omega arith)
-
-  pub place-says : (placeOf frame original ≡ At at size) ↔ Placed frame original at size
+  place-is : placeOf frame original ≡ cond (fitting && carried) (At (payloadAt frame) (payloadSize frame)) Skipped
   unfolding placeOf datagramPlace
-  place-says = (
-    placed _ _ (fits-says frame original) (dhcp-says frame _ _),
-    λ p. rw (fits-says frame original .1 (p .fits), dhcp-says frame _ _ .1 (p .dhcp), p .at-is, p .size-is),
-  )
+  place-is = nested fitting carried (At (payloadAt frame) (payloadSize frame)) Skipped
 
-  pub place-within : placeOf frame original ≡ At at size → at + size ≤ length frame
-  place-within e = let p = place-says .0 e in omega arith
+  pub place-skipped : (HasPayload frame original → ⊥) → Skipped ≡ placeOf frame original
+  place-skipped n = sym (place-is ∙ rw (refuted _ payload-test n))
+
+  pub place-datagram : (total : ℕ) → total ≡ totalLength frame → Fits frame original
+      → datagramPlace frame (datagramAt frame) (total - headerLength frame) ≡ placeOf frame original
+  unfolding placeOf
+  place-datagram total e f = rw (e, fits-says .1 f)
+
+  module _ (at size : ℕ) where
+    placed : (t : Bool) → (t ≡ true) ↔ HasPayload frame original → cond t (At (payloadAt frame) (payloadSize frame)) Skipped ≡ At at size
+        → Placed frame original at size
+    placed true h e = record { has = h .0 refl; at-is = cc; size-is = cc }
+    placed false h e = absurd (let z : _≡_ {A = ℕ} 0 1 = cc in omega arith)
+
+    pub place-says : (placeOf frame original ≡ At at size) ↔ Placed frame original at size
+    place-says = (λ e. placed _ payload-test (sym place-is ∙ e), λ p. place-is ∙ rw (payload-test .1 (p .has), p .at-is, p .size-is))
+
+    pub place-within : placeOf frame original ≡ At at size → at + size ≤ length frame
+    place-within e = let p = place-says .0 e in omega arith
 
 -- its bytes
 module _ (frame : List ℕ) (original : ℕ) where
