@@ -1,9 +1,11 @@
 -- One record, by whether it has a payload: its line, the received counters and the book afterwards. The only law file that unfolds `recordLine` and
 -- `receivedBy`.
-use Prim.Native.Nat.{ℕ}
+use Prim.Native.Nat.{ℕ, _+_, _-_}
 use mathlib.Core.Path.{_≡_, refl, sym, ap, _∙_}
 use mathlib.Core.List.{List}
 use mathlib.Core.Option.{none, some}
+use native.Mathlib.Omega.{arith}
+use lib.ListN.{take, drop}
 use Rattle.key_book.specs.Book.{Book, bookOf}
 use Rattle.delayed_auth.specs.declared.Verdict.{Verdict}
 use Rattle.delayed_auth.specs.Check.{checkOf, receivedAfter}
@@ -11,8 +13,17 @@ use Rattle.demands.specs.Demand3.{check, bookAfter}
 use Rattle.verdict_line.specs.declared.Line.{Line}
 use Rattle.verdict_line.specs.declared.Line.the-variants.{Skipped}
 use Rattle.file_verdict.specs.Files.{verdictLine}
-use Rattle.capture.specs.Frame.{payloadOf}
+use Rattle.capture.specs.declared.Payload.the-variants.{At}
+use Rattle.capture.specs.Frame.{placeOf, payloadOf}
+use Rattle.capture.proofs.Frames.{payload-at}
 use Rattle.capture_verdict.specs.Lines.{recordLine, receivedBy, bookBy}
+
+-- the payload as the part of its frame between two offsets
+pub payload-part : (frame : List ℕ) (original at size : ℕ) → placeOf frame original ≡ At at size
+    → payloadOf frame original ≡ some (take (at + size - at) (drop at frame))
+payload-part frame original at size e =
+    let n : at + size - at ≡ size = omega arith in
+    payload-at frame original at size e ∙ ap (λ (k : ℕ). some (take k (drop at frame))) (sym n)
 
 module _ (b : Book) (frame : List ℕ) (original : ℕ) where
   module _ (e : payloadOf frame original ≡ none) where
