@@ -4,9 +4,13 @@
 // Here are the reads and writes: of the file only a window is in the room, and the lines wait in a room of their own until it is nearly full. What the
 // bytes mean is decided in capture and capture_verdict.
 ghost use mathlib.Core.Path.{_≡_};
-ghost use Prim.Native.Nat.{_+_, _-_, _≤_, _<_};
-ghost use lib.ListN.{length};
-ghost use Rattle.capture.specs.Layout.{frameMost};
+ghost use Prim.Native.Nat.{_+_, _-_, _≤_};
+ghost use lib.ListN.{length, take};
+ghost use Rattle.key_book.specs.Book.{bookOf};
+ghost use Rattle.verdict_line.specs.Line.{numberedMost, numberedLine, PutAt};
+ghost use Rattle.capture.specs.Layout.{fileHeaderSize, frameMost};
+ghost use Rattle.judge_capture.specs.Window.{window, endedBy, Gathers, FrameGathers, NextIs, OpensAs};
+ghost use Rattle.judge_capture.specs.Judging.{Judged};
 use capture::FILE_HEADER_SIZE;
 use capture::FileHeader;
 use capture::Order;
@@ -18,6 +22,7 @@ use file_verdict::Progress;
 use key_book::ROWS_MOST;
 use key_book::SLOT_SIZE;
 use libc::STDOUT_FILENO;
+use verdict_line::LINE_MOST;
 use verdict_line::Line;
 use verdict_line::NUMBERED_MOST;
 
@@ -47,12 +52,16 @@ enum Next {
 // What opening the recording gives.
 enum Opening {
     Unreadable,
-    // A capture with numbers in this order; the window behind its header ends at this offset.
-    Capture(Order, usize),
+    // A capture with numbers in this order; the window behind its header is from the first offset to the second.
+    Capture(Order, usize, usize),
 }
 
 // Moves the window to the room's front, and returns its size.
-fn move_front(room: &mut [u8], from: usize, have: usize) -> usize {
+fn move_front(room: &mut [u8], from: usize, have: usize) -> usize
+    requires { ⌜ from ≤ have ⌝ }
+    requires { ⌜ have ≤ length (now room) ⌝ }
+    ensures { λ r. ⌜ (r ≡ have - from) × (take r (now (room .exit)) ≡ window (now (room .entry)) from have) ⌝ }
+{
     let size = have - from;
     let mut i: usize = 0;
     while i < size {
@@ -62,8 +71,10 @@ fn move_front(room: &mut [u8], from: usize, have: usize) -> usize {
     size
 }
 
-// What it means that the file ended here.
-fn ended(content: Content) -> Gathered {
+// What it means for the window that the reading ended.
+fn ended(content: Content) -> Gathered
+    ensures { λ r. ⌜ r ≡ endedBy content ⌝ }
+{
     match content {
         Content::Unreadable => Gathered::Failed,
         Content::Size(left) => Gathered::Ended(left),
@@ -71,7 +82,11 @@ fn ended(content: Content) -> Gathered {
 }
 
 // Reads until the window, which is at the room's front, has as many bytes as are wanted.
-fn fill(fd: i32, room: &mut [u8], have: usize, want: usize) -> Gathered {
+fn fill(fd: i32, room: &mut [u8], have: usize, want: usize) -> Gathered
+    requires { ⌜ have ≤ length (now room) ⌝ }
+    requires { ⌜ want ≤ length (now room) ⌝ }
+    ensures { λ r. ⌜ Gathers (take have (now (room .entry))) want (now (room .exit)) r ⌝ }
+{
     let mut size = have;
     while size < want {
         let progress = program_files::read_more(fd, room, size);
@@ -84,7 +99,12 @@ fn fill(fd: i32, room: &mut [u8], have: usize, want: usize) -> Gathered {
 }
 
 // Sees to it that the window has as many bytes as are wanted.
-fn gather(fd: i32, room: &mut [u8], from: usize, have: usize, want: usize) -> Gathered {
+fn gather(fd: i32, room: &mut [u8], from: usize, have: usize, want: usize) -> Gathered
+    requires { ⌜ from ≤ have ⌝ }
+    requires { ⌜ have ≤ length (now room) ⌝ }
+    requires { ⌜ want ≤ length (now room) ⌝ }
+    ensures { λ r. ⌜ Gathers (window (now (room .entry)) from have) want (now (room .exit)) r ⌝ }
+{
     if want <= have - from {
         return Gathered::Window(from, have);
     }
@@ -100,7 +120,12 @@ fn gather_frame(
     have: usize,
     captured: usize,
     original: usize,
-) -> Next {
+) -> Next
+    requires { ⌜ from ≤ have ⌝ }
+    requires { ⌜ have ≤ length (now room) ⌝ }
+    requires { ⌜ captured ≤ length (now room) ⌝ }
+    ensures { λ r. ⌜ FrameGathers (window (now (room .entry)) from have) (now (room .exit)) captured original r ⌝ }
+{
     let gathered = gather(fd, room, from, have, captured);
     let Gathered::Window(at, end) = gathered else {
         return Next::Cut;
@@ -108,8 +133,13 @@ fn gather_frame(
     Next::Record(at, at + captured, original, end)
 }
 
-// Takes the header of the next record, and gathers its frame.
-fn next_record(fd: i32, order: Order, room: &mut [u8], from: usize, have: usize) -> Next {
+// Takes the header of the next record, and then gathers its frame: so the largest frame fits the room.
+fn next_record(fd: i32, order: Order, room: &mut [u8], from: usize, have: usize) -> Next
+    requires { ⌜ from ≤ have ⌝ }
+    requires { ⌜ have ≤ length (now room) ⌝ }
+    requires { ⌜ frameMost ≤ length (now room) ⌝ }
+    ensures { λ r. ⌜ NextIs order (window (now (room .entry)) from have) (now (room .exit)) r ⌝ }
+{
     let gathered = gather(fd, room, from, have, RECORD_HEADER_SIZE);
     match gathered {
         Gathered::Failed => Next::Cut,
@@ -130,13 +160,19 @@ fn next_record(fd: i32, order: Order, room: &mut [u8], from: usize, have: usize)
     }
 }
 
-// Adds a record's line to those that wait.
-fn add_line(out: &mut [u8], size: usize, number: u64, line: Line) -> usize {
+// Adds a record's line behind those that wait, and returns where it ends.
+fn add_line(out: &mut [u8], size: usize, number: u64, line: Line) -> usize
+    requires { ⌜ size + numberedMost ≤ length (now out) ⌝ }
+    ensures { λ r. ⌜ PutAt (now (out .entry)) size (numberedLine number line) (now (out .exit)) r ⌝ }
+    ensures { λ r. ⌜ r ≤ length (now (out .exit)) ⌝ }
+{
     size + verdict_line::write_numbered(&mut out[size..], number, line)
 }
 
 // Writes the lines that wait and, where the file is cut, the line that says so.
-fn finish(out: &mut [u8], size: usize, cut: bool) {
+fn finish(out: &mut [u8], size: usize, cut: bool)
+    requires { ⌜ size ≤ length (now out) ⌝ }
+{
     let mut end = size;
     if cut {
         end = size + verdict_line::write_line(&mut out[size..], Line::Cut);
@@ -150,18 +186,27 @@ fn judge_records(
     order: Order,
     room: &mut [u8],
     first: usize,
+    first_have: usize,
     ids: &[u32],
     lengths: &[u8],
     store: &[u8],
     received: &mut [u64],
     sent: &[u64],
     rows: usize,
-) {
+)
+    requires { ⌜ first ≤ «first_have» ⌝ }
+    requires { ⌜ «first_have» ≤ length (now room) ⌝ }
+    requires { ⌜ frameMost ≤ length (now room) ⌝ }
+    ensures { λ _. ⌜
+        (let b = bookOf (now (ids .entry)) (now (lengths .entry)) (now (store .entry)) (now (received .entry)) (now (sent .entry)) rows in
+        Judged order b (window (now (room .entry)) first «first_have») (now (received .exit)))
+        ⌝ }
+{
     let mut out = [0u8; ROOM];
     let mut size: usize = 0;
     let mut number: u64 = 0;
-    let mut from = FILE_HEADER_SIZE;
-    let mut have = first;
+    let mut from = first;
+    let mut have = first_have;
     while number < u64::MAX {
         let next = next_record(fd, order, room, from, have);
         match next {
@@ -201,20 +246,24 @@ fn judge_records(
 }
 
 // Looks at the header of an open file.
-fn open_capture(fd: i32, room: &mut [u8]) -> Opening {
+fn open_capture(fd: i32, room: &mut [u8]) -> Opening
+    requires { ⌜ fileHeaderSize ≤ length (now room) ⌝ }
+    ensures { λ r. ⌜ OpensAs (now (room .exit)) r ⌝ }
+{
     let gathered = fill(fd, room, 0, FILE_HEADER_SIZE);
     let Gathered::Window(at, have) = gathered else {
         return Opening::Unreadable;
     };
-    let header = capture::file_header(room);
+    let behind = at + FILE_HEADER_SIZE;
+    let header = capture::file_header(&room[at..behind]);
     match header {
         FileHeader::Other => Opening::Unreadable,
-        FileHeader::Ethernet(order) => Opening::Capture(order, have),
+        FileHeader::Ethernet(order) => Opening::Capture(order, behind, have),
     }
 }
 
 fn write_unreadable() {
-    let mut out = [0u8; NUMBERED_MOST];
+    let mut out = [0u8; LINE_MOST];
     let size = verdict_line::write_line(&mut out, Line::Unreadable);
     io::write_all(STDOUT_FILENO, &out[..size]);
 }
@@ -236,19 +285,20 @@ fn main() {
         write_unreadable();
         return;
     };
-    let mut room = [0u8; ROOM];
     let fd = os::open_read(b"church.pcap");
     if fd < 0 {
         write_unreadable();
         return;
     }
+    let mut room = [0u8; ROOM];
     let opening = open_capture(fd, &mut room);
     match opening {
         Opening::Unreadable => write_unreadable(),
-        Opening::Capture(order, have) => judge_records(
+        Opening::Capture(order, from, have) => judge_records(
             fd,
             order,
             &mut room,
+            from,
             have,
             &ids,
             &lengths,

@@ -1,0 +1,81 @@
+-- The window of the file that the room holds: its bytes between two offsets. What a read gives no contract knows, so each statement has the bytes that
+-- were read as a part: nothing is lost before them, and nothing altered.
+use Prim.Native.Nat.{ℕ, _-_, _≤_, _<_}
+use mathlib.Core.Path.{_≡_}
+use mathlib.Core.List.{List, [], _++_}
+use lib.ListN.{length, take, drop}
+use Rattle.file_verdict.specs.declared.Content.{Content}
+use Rattle.file_verdict.specs.declared.Content.the-variants.{Unreadable, Size}
+use Rattle.capture.specs.declared.Order.{Order}
+use Rattle.capture.specs.declared.FileHeader.the-variants.{Ethernet}
+use Rattle.capture.specs.declared.RecordHeader.the-variants.{Frame}
+use Rattle.capture.specs.Layout.{fileHeaderSize, recordHeaderSize}
+use Rattle.capture.specs.Records.{fileHeaderOf, recordHeaderOf}
+use Rattle.judge_capture.specs.declared.Gathered.{Gathered}
+use Rattle.judge_capture.specs.declared.Gathered.the-variants.{Window, Ended, Failed}
+use Rattle.judge_capture.specs.declared.Next.{Next}
+use Rattle.judge_capture.specs.declared.Next.the-variants.{Record, AtEnd, Cut}
+use Rattle.judge_capture.specs.declared.Opening.{Opening}
+use Rattle.judge_capture.specs.declared.Opening.the-variants.{Unreadable as NoCapture, Capture}
+
+abbrev pub window : List ℕ → ℕ → ℕ → List ℕ
+window room from have = take (have - from) (drop from room)
+
+-- the window has the bytes that were there before, and behind them those that were read
+pub record Grown (old room : List ℕ) (from have : ℕ) : Type 0 where
+  pub ordered : from ≤ have
+  pub within : have ≤ length room
+  pub read : List ℕ
+  pub holds : window room from have ≡ old ++ read
+
+-- where a read ended
+abbrev pub endedBy : Content → Gathered
+endedBy Unreadable = Failed
+endedBy (Size n) = Ended n
+
+-- what was gathered, where so many bytes were wanted
+abbrev pub Gathers : List ℕ → ℕ → List ℕ → Gathered → Type 0
+Gathers old want room (Window from have) = Grown old room from have × (want ≤ have - from)
+Gathers old want room (Ended left) = Grown old room 0 left × (left < want)
+Gathers old want room Failed = Unit {0}
+
+-- a frame of so many bytes at the front of the window, and that length handed on
+pub record FrameThere (old room : List ℕ) (captured original at end length have : ℕ) : Type 0 where
+  pub grown : Grown old room at have
+  pub frame-ends : end - at ≡ captured
+  pub frame-ordered : at ≤ end
+  pub frame-within : end ≤ have
+  pub handed-on : length ≡ original
+
+abbrev pub FrameGathers : List ℕ → List ℕ → ℕ → ℕ → Next → Type 0
+FrameGathers old room captured original (Record at end length have) = FrameThere old room captured original at end length have
+FrameGathers old room captured original AtEnd = ⊥
+FrameGathers old room captured original Cut = Unit {0}
+
+-- the bytes begin with a record's header, and the window with the frame that it tells of
+pub record RecordThere (order : Order) (old room : List ℕ) (at end original have : ℕ) : Type 0 where
+  pub frame-ordered : at ≤ end
+  pub frame-within : end ≤ have
+  pub within : have ≤ length room
+  pub header : List ℕ
+  pub header-size : length header ≡ recordHeaderSize
+  pub header-says : recordHeaderOf order header ≡ Frame (end - at) original
+  pub read : List ℕ
+  pub holds : old ++ read ≡ header ++ window room at have
+
+abbrev pub NextIs : Order → List ℕ → List ℕ → Next → Type 0
+NextIs order old room (Record at end original have) = RecordThere order old room at end original have
+NextIs order old room AtEnd = old ≡ []
+NextIs order old room Cut = Unit {0}
+
+-- the file began with a header of this order, and the window is what stands behind it
+pub record CaptureThere (room : List ℕ) (order : Order) (from have : ℕ) : Type 0 where
+  pub ordered : from ≤ have
+  pub within : have ≤ length room
+  pub header : List ℕ
+  pub header-size : length header ≡ fileHeaderSize
+  pub header-says : fileHeaderOf header ≡ Ethernet order
+
+abbrev pub OpensAs : List ℕ → Opening → Type 0
+OpensAs room NoCapture = Unit {0}
+OpensAs room (Capture order from have) = CaptureThere room order from have
