@@ -1,11 +1,12 @@
 -- The window of the file that the room holds: its bytes between two offsets. What a read gives no contract knows, so each statement has the bytes that
 -- were read as a part: nothing is lost before them, and nothing altered.
-use Prim.Native.Nat.{ℕ, _-_, _≤_, _<_}
+use Prim.Native.Nat.{ℕ, _+_, _-_, _≤_, _<_}
 use mathlib.Core.Path.{_≡_}
 use mathlib.Core.List.{List, [], _++_}
 use lib.ListN.{length, take, drop}
 use Rattle.file_verdict.specs.declared.Content.{Content}
 use Rattle.file_verdict.specs.declared.Content.the-variants.{Unreadable, Size}
+use Rattle.verdict_line.specs.Line.{numberedMost}
 use Rattle.capture.specs.declared.Order.{Order}
 use Rattle.capture.specs.declared.FileHeader.the-variants.{Ethernet}
 use Rattle.capture.specs.declared.RecordHeader.the-variants.{Frame}
@@ -15,6 +16,8 @@ use Rattle.judge_capture.specs.declared.Gathered.{Gathered}
 use Rattle.judge_capture.specs.declared.Gathered.the-variants.{Window, Ended, Failed}
 use Rattle.judge_capture.specs.declared.Next.{Next}
 use Rattle.judge_capture.specs.declared.Next.the-variants.{Record, AtEnd, Cut}
+use Rattle.judge_capture.specs.declared.Waiting.{Waiting}
+use Rattle.judge_capture.specs.declared.Waiting.the-variants.{Size as Waits, Broken}
 use Rattle.judge_capture.specs.declared.Opening.{Opening}
 use Rattle.judge_capture.specs.declared.Opening.the-variants.{Unreadable as NoCapture, Capture}
 
@@ -67,6 +70,11 @@ abbrev pub NextIs : Order → List ℕ → List ℕ → Next → Type 0
 NextIs order old room (Record at end original have) = RecordThere order old room at end original have
 NextIs order old room AtEnd = old ≡ []
 NextIs order old room Cut = Unit {0}
+
+-- there is room for one more line behind those that wait, in a room of so many bytes
+abbrev pub RoomMade : ℕ → Waiting → Type 0
+RoomMade room (Waits size) = size + numberedMost ≤ room
+RoomMade room Broken = Unit {0}
 
 -- the file began with a header of this order, and the window is what stands behind it
 pub record CaptureThere (room : List ℕ) (order : Order) (from have : ℕ) : Type 0 where

@@ -9,7 +9,7 @@ ghost use lib.ListN.{length, take};
 ghost use Rattle.key_book.specs.Book.{bookOf};
 ghost use Rattle.verdict_line.specs.Line.{numberedMost, numberedLine, PutAt};
 ghost use Rattle.capture.specs.Layout.{fileHeaderSize, frameMost};
-ghost use Rattle.judge_capture.specs.Window.{window, endedBy, Gathers, FrameGathers, NextIs, OpensAs};
+ghost use Rattle.judge_capture.specs.Window.{window, endedBy, Gathers, FrameGathers, NextIs, RoomMade, OpensAs};
 ghost use Rattle.judge_capture.specs.Judging.{Judged};
 use capture::FILE_HEADER_SIZE;
 use capture::FileHeader;
@@ -47,6 +47,14 @@ enum Next {
     AtEnd,
     // The file is cut.
     Cut,
+}
+
+// The lines that wait to be written.
+enum Waiting {
+    // They have so many bytes, and there is room for one more.
+    Size(usize),
+    // A write failed.
+    Broken,
 }
 
 // What opening the recording gives.
@@ -169,6 +177,29 @@ fn add_line(out: &mut [u8], size: usize, number: u64, line: Line) -> usize
     size + verdict_line::write_numbered(&mut out[size..], number, line)
 }
 
+// Writes the lines that wait if there may be no room for one more.
+fn make_room(out: &[u8], size: usize) -> Waiting
+    requires { ⌜ numberedMost ≤ length (now out) ⌝ }
+    requires { ⌜ size ≤ length (now out) ⌝ }
+    ensures { λ r. ⌜ RoomMade (length (now (out .entry))) r ⌝ }
+{
+    if size <= out.len() - NUMBERED_MOST {
+        return Waiting::Size(size);
+    }
+    if !io::write_all(STDOUT_FILENO, &out[..size]) {
+        return Waiting::Broken;
+    }
+    Waiting::Size(0)
+}
+
+fn is_cut(next: Next) -> bool {
+    match next {
+        Next::Record(at, end, original, have) => false,
+        Next::AtEnd => false,
+        Next::Cut => true,
+    }
+}
+
 // Writes the lines that wait and, where the file is cut, the line that says so.
 fn finish(out: &mut [u8], size: usize, cut: bool)
     requires { ⌜ size ≤ length (now out) ⌝ }
@@ -209,38 +240,29 @@ fn judge_records(
     let mut have = first_have;
     while number < u64::MAX {
         let next = next_record(fd, order, room, from, have);
-        match next {
-            Next::AtEnd => {
-                finish(&mut out, size, false);
-                return;
-            }
-            Next::Cut => {
-                finish(&mut out, size, true);
-                return;
-            }
-            Next::Record(at, end, original, window) => {
-                number += 1;
-                let line = capture_verdict::record_line(
-                    &room[at..end],
-                    original,
-                    ids,
-                    lengths,
-                    store,
-                    received,
-                    sent,
-                    rows,
-                );
-                size = add_line(&mut out, size, number, line);
-                from = end;
-                have = window;
-            }
-        }
-        if ROOM - NUMBERED_MOST < size {
-            if !io::write_all(STDOUT_FILENO, &out[..size]) {
-                return;
-            }
-            size = 0;
-        }
+        let Next::Record(at, end, original, window) = next else {
+            finish(&mut out, size, is_cut(next));
+            return;
+        };
+        number += 1;
+        let line = capture_verdict::record_line(
+            &room[at..end],
+            original,
+            ids,
+            lengths,
+            store,
+            received,
+            sent,
+            rows,
+        );
+        let added = add_line(&mut out, size, number, line);
+        let waiting = make_room(&out, added);
+        let Waiting::Size(left) = waiting else {
+            return;
+        };
+        size = left;
+        from = end;
+        have = window;
     }
     finish(&mut out, size, false);
 }
