@@ -1,2 +1,4 @@
 pub mod Computed
 pub mod Frames
+mod Parts
+pub mod Payloads
