@@ -43,6 +43,7 @@ module _ {P : Type 0} (t u : Bool) (s : (u ≡ true) ↔ P) (e : t ≡ u) where
   pub granted : not t ≡ false → P
   granted h = s .0 (sym e ∙ not-false t h)
 
+-- a field by octets' number
 pub field-is : (s : List ℕ) (at : ℕ) → bigAt s at fieldSize ≡ fieldAt s at
 unfolding fieldAt
 field-is s at = refl
@@ -125,11 +126,13 @@ module _ (frame : List ℕ) (at room : ℕ) where
 
 -- ---- the payload
 
+-- the packet's tests pass
 pub record Fits (frame : List ℕ) (original : ℕ) : Type 0 where
   pub all-there : length frame ≡ original
   pub whole : WholeUdp frame
   pub lengths : LengthsFit frame
 
+-- the datagram's place and the room that the packet leaves for it, and the payload's place
 module _ (frame : List ℕ) where
   abbrev pub datagramAt : ℕ
   datagramAt = packetAt + headerLength frame
@@ -143,11 +146,12 @@ module _ (frame : List ℕ) where
   abbrev pub payloadSize : ℕ
   payloadSize = udpLength frame datagramAt - udpHeaderSize
 
+-- all tests pass
 pub record HasPayload (frame : List ℕ) (original : ℕ) : Type 0 where
   pub fits : Fits frame original
   pub dhcp : Dhcp frame (datagramAt frame) (datagramRoom frame)
 
--- where it stands
+-- the payload stands here
 pub record Placed (frame : List ℕ) (original at size : ℕ) : Type 0 where
   pub has : HasPayload frame original
   pub at-is : payloadAt frame ≡ at
@@ -202,7 +206,7 @@ module _ (frame : List ℕ) (original : ℕ) where
     pub place-within : placeOf frame original ≡ At at size → at + size ≤ length frame
     place-within e = let p = place-says .0 e in omega arith
 
--- its bytes
+-- its bytes, for callers and for `PayloadSays` (Payloads.antt)
 module _ (frame : List ℕ) (original : ℕ) where
   pub payload-at : (at size : ℕ) → placeOf frame original ≡ At at size → payloadOf frame original ≡ some (take size (drop at frame))
   unfolding payloadOf
@@ -211,3 +215,18 @@ module _ (frame : List ℕ) (original : ℕ) where
   pub payload-skipped : placeOf frame original ≡ Skipped → payloadOf frame original ≡ none
   unfolding payloadOf
   payload-skipped e = ap (bytesAt frame) e
+
+  pub payload-is : (payload : List ℕ)
+      → (payloadOf frame original ≡ some payload) ↔ (HasPayload frame original × (take (payloadSize frame) (drop (payloadAt frame) frame) ≡ payload))
+  payload-is payload = (
+    λ e. from (placeOf frame original) refl e,
+    λ h. payload-at _ _ (place-says frame original _ _ .1 record { has = h .0; at-is = refl; size-is = refl }) ∙ ap some (h .1),
+  )
+    where
+      from : (p : Payload) → placeOf frame original ≡ p → payloadOf frame original ≡ some payload
+          → HasPayload frame original × (take (payloadSize frame) (drop (payloadAt frame) frame) ≡ payload)
+      from Skipped e h = absurd (let n = payload-skipped e in let z : _≡_ {A = ℕ} 0 1 = cc in omega arith)
+      from (At at size) e h =
+          let p = place-says frame original at size .0 e in
+          let s = payload-at at size e in
+          (p .has, rw (p .at-is, p .size-is) (cc))
