@@ -1,0 +1,4 @@
+mod Moves
+mod Windows
+mod Rooms
+mod Taken

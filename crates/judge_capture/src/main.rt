@@ -204,10 +204,11 @@ fn is_cut(next: Next) -> bool {
 fn finish(out: &mut [u8], size: usize, cut: bool)
     requires { ⌜ size ≤ length (now out) ⌝ }
 {
-    let mut end = size;
-    if cut {
-        end = size + verdict_line::write_line(&mut out[size..], Line::Cut);
+    if !cut {
+        io::write_all(STDOUT_FILENO, &out[..size]);
+        return;
     }
+    let end = size + verdict_line::write_line(&mut out[size..], Line::Cut);
     io::write_all(STDOUT_FILENO, &out[..end]);
 }
 

@@ -92,6 +92,10 @@ pub size-whole : (line : List ℕ) (room : ℕ) → length line ≤ room → siz
 unfolding sizeIn
 size-whole line room h = rw (le-leb (length line) room h)
 
+pub out-whole : (line out : List ℕ) → length line ≤ length out → outAfter line out ≡ written 0 line out
+unfolding outAfter
+out-whole line out h = rw (le-leb (length line) (length out) h)
+
 -- the two ends of `put_made`
 abbrev pub MadePut : List ℕ → List ℕ → List ℕ → ℕ → Type 0
 MadePut line old new r = (r ≡ sizeIn line (length old)) × (new ≡ outAfter line old)

@@ -1,46 +1,30 @@
+-- `judge_capture::add_line` meets its contract: the rest of the room, lent to the writer, comes back with the line at its front (proofs/Rooms.antt).
+use native.Mathlib.Omega.{arith}
+use Rattle.judge_capture.proofs.Rooms.{added-within, added}
 use borrow.Author.Needs.{needs}
 use Rattle.judge_capture.proofs.add_line.Statement.{statement}
 use Rattle.judge_capture.proofs.add_line.Tie as tie
-use Rattle.judge_capture.proofs.add_line.Reads as reads
-use Rattle.judge_capture.proofs.add_line.Lts as lts
-use Rattle.verdict_line.proofs.write_numbered.Reads as write-numbered-reads
 
--- src/main.rt:177:41
-sub-write-numbered : tie.Need-sub-write-numbered
-sub-write-numbered c = search needs
-
--- src/main.rt:177:41
-part-write-numbered-start : tie.Need-part-write-numbered-start
-part-write-numbered-start c = search needs
-
--- src/main.rt:177:41
-part-write-numbered-end : tie.Need-part-write-numbered-end
-part-write-numbered-end c = search needs
-
--- src/main.rt:177:12
-write-numbered-requires : tie.Need-write-numbered-requires
-write-numbered-requires c κs = search needs
-
--- src/main.rt:177:5
 add-result : tie.Need-add-result
-add-result c = ?
+add-result c =
+    let a = c .before .before .before .before .before .args in
+    omega (arith, added-within (a .size) (a .out .now) (search needs) _ (c .before .before .write-numbered .ensures .0))
 
--- src/main.rt:172:1
-same-length : tie.Need-same-length
-same-length c = search needs
-
--- src/main.rt:172:1
 returns : tie.Need-returns
-returns c = ?
+returns c =
+    let e = c .before .before .write-numbered .ensures in
+    let a = c .before .before .before .before .before .args in
+    let w = added-within (a .size) (a .out .now) (search needs) _ (e .0) in
+    (added (a .size) (a .out .now) (search needs) _ (e .0) _ (e .1 .1 (search needs)) (e .1 .0), search needs)
 
 pub add-line-spec : {M : Type 1} → statement M
 add-line-spec =
     tie.close
     (tie.spec
-    sub-write-numbered
-    part-write-numbered-start
-    part-write-numbered-end
-    write-numbered-requires
+    (λ c. search needs)
+    (λ c. search needs)
+    (λ c. search needs)
+    (λ c κs. search needs)
     add-result
-    same-length
+    (λ c. search needs)
     returns)

@@ -1,59 +1,65 @@
+-- `judge_capture::fill` meets its contract: each turn keeps `Filling` (proofs/Windows.antt), and a read that goes on gives more (program_files,
+-- proofs/Turns.antt). The measure is the room that is left.
+use Prim.Native.Nat.{_-_}
+use native.Mathlib.Omega.{arith}
+use lib.ListN.{length}
+use borrow.Author.Needs.{needs}
+use Rattle.program_files.proofs.Turns.{turn-more}
+use Rattle.judge_capture.proofs.Windows.{Filling, filling-start, filling-read, filling-window, filling-ended}
 use Rattle.judge_capture.proofs.fill.Statement.{statement}
 use Rattle.judge_capture.proofs.fill.Tie as tie
-use Rattle.judge_capture.proofs.fill.Reads as reads
-use Rattle.judge_capture.proofs.fill.Lts as lts
-use Rattle.judge_capture.proofs.ended.Reads as ended-reads
-use Rattle.program_files.proofs.read_more.Reads as read-more-reads
 
 abbrev Inv-loop : tie.InvT-loop
-Inv-loop fd room₀ have want size₀ room size = ?
+Inv-loop fd room₀ have want size₀ room size = Filling room₀ have room size
 
 abbrev μ-loop : tie.MeasureT-loop
-μ-loop fd room₀ have want size₀ room size = ?
+μ-loop fd room₀ have want size₀ room size = length room₀ - size
 
--- src/main.rt:99:5
 loop-holds : tie.Need-loop-holds Inv-loop μ-loop
-loop-holds c = ?
+loop-holds c = filling-start _ _ (search needs)
 
--- src/main.rt:100:13
 read-more-requires : tie.Need-read-more-requires Inv-loop μ-loop
-read-more-requires c κs = ?
+read-more-requires c κs = search needs
 
--- src/main.rt:102:29
 enum-known-progress : tie.Need-enum-known-progress Inv-loop μ-loop
-enum-known-progress c = ?
+enum-known-progress c = search needs
 
--- src/main.rt:102:41
 ended-requires : tie.Need-ended-requires Inv-loop μ-loop
-ended-requires c κs = ?
+ended-requires c κs = search needs
 
--- src/main.rt:102:41
 same-length : tie.Need-same-length Inv-loop μ-loop
-same-length c = ?
+same-length c = search needs
 
--- src/main.rt:102:41
 returns : tie.Need-returns Inv-loop μ-loop
-returns c = ?
+returns c =
+    let d = c .before .before .before .before .before .before in
+    let f = d .before .before .before .loop .inv in
+    let e = d .read-more .ensures in
+    let n = filling-read f _ _ (e .0) (e .1 .0) (omega arith) (f .within) in
+    rw (c .ended .ensures) (filling-ended n _ _ (omega arith) (e .1 .1) (c .before .before .progress .given .1))
 
--- src/main.rt:103:28
 enum-known-progress-2 : tie.Need-enum-known-progress-2 Inv-loop μ-loop
-enum-known-progress-2 c = ?
+enum-known-progress-2 c = search needs
 
--- src/main.rt:99:5
 loop-less : tie.Need-loop-less Inv-loop μ-loop
-loop-less c = ?
+loop-less c =
+    let d = c .before .before .before .before .before in
+    let f = d .before .before .before .loop .inv in
+    omega (arith, turn-more (d .read-more .ensures .1 .1) (f .long) (omega arith) (c .before .progress2 .given .1))
 
--- src/main.rt:99:5
 loop-again : tie.Need-loop-again Inv-loop μ-loop
-loop-again c = ?
+loop-again c =
+    let d = c .before .before .before .before .before in
+    let f = d .before .before .before .loop .inv in
+    let e = d .read-more .ensures in
+    let t = turn-more (e .1 .1) (f .long) (omega arith) (c .before .progress2 .given .1) in
+    filling-read f _ _ (e .0) (e .1 .0) (omega arith) (t .1)
 
--- src/main.rt:93:1
 same-length-2 : tie.Need-same-length-2 Inv-loop μ-loop
-same-length-2 c = ?
+same-length-2 c = c .before .loop .inv .long
 
--- src/main.rt:93:1
 returns-2 : tie.Need-returns-2 Inv-loop μ-loop
-returns-2 c = ?
+returns-2 c = filling-window (c .before .loop .inv) _ (omega arith)
 
 pub fill-spec : {M : Type 1} → statement M
 fill-spec =

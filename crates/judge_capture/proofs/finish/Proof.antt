@@ -1,62 +1,46 @@
+-- `judge_capture::finish` is safe: what it writes lies within the room (proofs/Rooms.antt).
+use mathlib.Core.Path.{sym}
+use native.Mathlib.Omega.{arith}
+use lib.Seq.{length-take-le}
+use Rattle.judge_capture.proofs.Rooms.{added-within}
 use borrow.Author.Needs.{needs}
 use Rattle.judge_capture.proofs.finish.Statement.{statement}
 use Rattle.judge_capture.proofs.finish.Tie as tie
-use Rattle.judge_capture.proofs.finish.Reads as reads
-use Rattle.judge_capture.proofs.finish.Lts as lts
-use Rattle.io.proofs.write_all.Reads as write-all-reads
-use Rattle.verdict_line.proofs.write_line.Reads as write-line-reads
 
--- src/main.rt:209:47
-sub-write-line : tie.Need-sub-write-line
-sub-write-line c = search needs
-
--- src/main.rt:209:47
-part-write-line-start : tie.Need-part-write-line-start
-part-write-line-start c = search needs
-
--- src/main.rt:209:47
-part-write-line-end : tie.Need-part-write-line-end
-part-write-line-end c = search needs
-
--- src/main.rt:209:22
-write-line-requires : tie.Need-write-line-requires
-write-line-requires c κs = search needs
-
--- src/main.rt:209:15
-add-end : tie.Need-add-end
-add-end c = ?
-
--- src/main.rt:211:34
-slice-reshare-prefix-write-all : tie.Need-slice-reshare-prefix-write-all
-slice-reshare-prefix-write-all c = ?
-
--- src/main.rt:211:34
 slice-aggregate-write-all : tie.Need-slice-aggregate-write-all
-slice-aggregate-write-all c = ?
+slice-aggregate-write-all c = sym (length-take-le _ _ (omega arith))
 
--- src/main.rt:211:5
-write-all-requires : tie.Need-write-all-requires
-write-all-requires c κs = search needs
+add-end : tie.Need-add-end
+add-end c =
+    let a = c .before .before .before .before .before .before .args in
+    omega (arith, added-within (a .size) (a .out .now) (search needs) _ (c .before .before .write-line .ensures .0))
 
--- src/main.rt:204:1
-same-length : tie.Need-same-length
-same-length c = ?
+slice-reshare-prefix-write-all-2 : tie.Need-slice-reshare-prefix-write-all-2
+slice-reshare-prefix-write-all-2 c =
+    let a = c .before .before .before .before .before .before .args in
+    omega (arith, added-within (a .size) (a .out .now) (search needs) _ (c .before .before .write-line .ensures .0))
 
--- src/main.rt:204:1
-returns : tie.Need-returns
-returns c = search needs
+slice-aggregate-write-all-2 : tie.Need-slice-aggregate-write-all-2
+slice-aggregate-write-all-2 c =
+    let a = c .before .before .before .before .before .before .before .args in
+    sym (length-take-le _ _ (omega (arith, added-within (a .size) (a .out .now) (search needs) _ (c .before .before .before .write-line .ensures .0))))
 
 pub finish-spec : {M : Type 1} → statement M
 finish-spec =
     tie.close
     (tie.spec
-    sub-write-line
-    part-write-line-start
-    part-write-line-end
-    write-line-requires
-    add-end
-    slice-reshare-prefix-write-all
+    (λ c. search needs)
     slice-aggregate-write-all
-    write-all-requires
-    same-length
-    returns)
+    (λ c κs. search needs)
+    (λ c. search needs)
+    (λ c. search needs)
+    (λ c. search needs)
+    (λ c. search needs)
+    (λ c. search needs)
+    (λ c κs. search needs)
+    add-end
+    slice-reshare-prefix-write-all-2
+    slice-aggregate-write-all-2
+    (λ c κs. search needs)
+    (λ c. search needs)
+    (λ c. search needs))

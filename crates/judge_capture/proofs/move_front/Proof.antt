@@ -1,53 +1,46 @@
+-- `judge_capture::move_front` meets its contract: each turn keeps `Moving` (proofs/Moves.antt).
+use Prim.Native.Nat.{_-_}
+use mathlib.Core.Path.{refl}
+use native.Mathlib.Omega.{arith}
+use Rattle.judge_capture.proofs.Moves.{Moving, moving-start, moving-turn, moving-end}
 use Rattle.judge_capture.proofs.move_front.Statement.{statement}
 use Rattle.judge_capture.proofs.move_front.Tie as tie
-use Rattle.judge_capture.proofs.move_front.Reads as reads
-use Rattle.judge_capture.proofs.move_front.Lts as lts
 
 abbrev Inv-loop : tie.InvT-loop
-Inv-loop room₀ from have size i₀ room i = ?
+Inv-loop room₀ from have size i₀ room i = Moving room₀ from size room i
 
 abbrev μ-loop : tie.MeasureT-loop
-μ-loop room₀ from have size i₀ room i = ?
+μ-loop room₀ from have size i₀ room i = size - i
 
--- src/main.rt:73:16
 sub-size : tie.Need-sub-size Inv-loop μ-loop
-sub-size c = ?
+sub-size c = omega arith
 
--- src/main.rt:75:5
 loop-holds : tie.Need-loop-holds Inv-loop μ-loop
-loop-holds c = ?
+loop-holds c = moving-start _ _ _
 
--- src/main.rt:76:24
 add-room : tie.Need-add-room Inv-loop μ-loop
-add-room c = ?
+add-room c = omega arith
 
--- src/main.rt:76:19
 slice-read-room : tie.Need-slice-read-room Inv-loop μ-loop
-slice-read-room c = ?
+slice-read-room c = omega arith
 
--- src/main.rt:76:9
 slice-write-room : tie.Need-slice-write-room Inv-loop μ-loop
-slice-write-room c = ?
+slice-write-room c = omega arith
 
--- src/main.rt:77:9
 add-i : tie.Need-add-i Inv-loop μ-loop
-add-i c = ?
+add-i c = omega arith
 
--- src/main.rt:75:5
 loop-less : tie.Need-loop-less Inv-loop μ-loop
-loop-less c = ?
+loop-less c = omega arith
 
--- src/main.rt:75:5
 loop-again : tie.Need-loop-again Inv-loop μ-loop
-loop-again c = ?
+loop-again c = moving-turn _ _ _ _ _ (c .before .before .loop .inv) (omega arith) (omega arith)
 
--- src/main.rt:68:1
 same-length : tie.Need-same-length Inv-loop μ-loop
-same-length c = ?
+same-length c = c .before .loop .inv .long
 
--- src/main.rt:68:1
 returns : tie.Need-returns Inv-loop μ-loop
-returns c = ?
+returns c = (refl, moving-end _ _ _ _ _ (c .before .loop .inv) (omega arith))
 
 pub move-front-spec : {M : Type 1} → statement M
 move-front-spec =

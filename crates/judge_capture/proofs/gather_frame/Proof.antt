@@ -1,0 +1,30 @@
+-- `judge_capture::gather_frame` meets its contract: the window has the frame at its front.
+use mathlib.Core.Path.{refl}
+use native.Mathlib.Omega.{arith}
+use borrow.Author.Needs.{needs}
+use Rattle.judge_capture.proofs.gather_frame.Statement.{statement}
+use Rattle.judge_capture.proofs.gather_frame.Tie as tie
+
+add-t12 : tie.Need-add-t12
+add-t12 c =
+    let g = rw (c .before .gathered .given .1) at (c .before .before .before .before .before .gather .ensures) in
+    omega (arith, g .0 .ordered, g .0 .within, g .1)
+
+returns-2 : tie.Need-returns-2
+returns-2 c =
+    let g = rw (c .before .gathered .given .1) at (c .before .before .before .before .before .gather .ensures) in
+    let o = g .0 .ordered in
+    let w = g .1 in
+    record { grown = g .0; frame-ends = omega arith; frame-ordered = omega arith; frame-within = omega arith; handed-on = refl }
+
+pub gather-frame-spec : {M : Type 1} → statement M
+gather-frame-spec =
+    tie.close
+    (tie.spec
+    (λ c κs. search needs)
+    (λ c. search needs)
+    (λ c. search needs)
+    (λ c. search needs)
+    add-t12
+    (λ c. search needs)
+    returns-2)
