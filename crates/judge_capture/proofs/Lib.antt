@@ -2,3 +2,4 @@ mod Moves
 mod Windows
 mod Rooms
 mod Taken
+mod Runs

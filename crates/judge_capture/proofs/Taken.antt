@@ -1,7 +1,7 @@
 -- A header taken from the front of the window, and a frame behind it: what the calls that gather them and read the header answered, put together.
 use Prim.Native.Nat.{ℕ, _-_, _≤_}
 use mathlib.Core.Path.{_≡_, refl, sym, ap, _∙_}
-use mathlib.Core.List.{List, [], _∷_, _++_}
+use mathlib.Core.List.{List, [], _∷_, _++_, append-assoc}
 use native.Mathlib.Omega.{arith}
 use lib.ListN.{length, drop, length-drop}
 use lib.Seq.{length-take-le}
@@ -14,7 +14,7 @@ use Rattle.capture.proofs.Headers.{record-header-says}
 use Rattle.judge_capture.specs.Window.{window, Grown, FrameGathers, RecordThere, NextIs, CaptureThere}
 use Rattle.judge_capture.specs.declared.Next.{Next}
 use Rattle.judge_capture.specs.declared.Next.the-variants.{Record, AtEnd, Cut}
-use Rattle.judge_capture.proofs.Windows.{window-parts, append-assoc}
+use Rattle.judge_capture.proofs.Windows.{window-parts}
 
 -- an empty window at the file's end
 pub at-end : {old room : List ℕ} {left : ℕ} → Grown old room 0 left → left ≡ 0 → old ≡ []

@@ -1,7 +1,7 @@
 -- Windows: what stands in one, and how it grows by what is read behind it.
 use Prim.Native.Nat.{ℕ, _+_, _-_, _≤_, _<_}
 use mathlib.Core.Path.{_≡_, refl, sym, ap, _∙_}
-use mathlib.Core.List.{List, [], _∷_, _++_}
+use mathlib.Core.List.{List, [], _++_, append-nil}
 use native.Mathlib.Omega.{arith}
 use lib.ListN.{length, take, drop, take-append-drop}
 use lib.Seq.{take-take, take-add, drop-drop}
@@ -13,14 +13,6 @@ use Rattle.program_files.specs.Reads.{ReadMeans}
 use Rattle.program_files.proofs.Turns.{ended-at}
 use Rattle.judge_capture.specs.Window.{window, Grown, endedBy, Gathers}
 use Rattle.judge_capture.specs.declared.Gathered.the-variants.{Window}
-
-append-nil : (s : List ℕ) → s ++ [] ≡ s
-append-nil [] = refl
-append-nil (x ∷ s) = ap (λ (l : List ℕ). x ∷ l) (append-nil s)
-
-pub append-assoc : (xs ys zs : List ℕ) → (xs ++ ys) ++ zs ≡ xs ++ (ys ++ zs)
-append-assoc [] ys zs = refl
-append-assoc (x ∷ xs) ys zs = ap (λ (l : List ℕ). x ∷ l) (append-assoc xs ys zs)
 
 -- nothing was read
 pub grown-same : (room : List ℕ) (from have : ℕ) → from ≤ have → have ≤ length room → Grown (window room from have) room from have

@@ -18,18 +18,6 @@ abbrev μ-loop : tie.MeasureT-loop
 loop-holds : tie.Need-loop-holds Inv-loop μ-loop
 loop-holds c = filling-start _ _ (search needs)
 
-read-more-requires : tie.Need-read-more-requires Inv-loop μ-loop
-read-more-requires c κs = search needs
-
-enum-known-progress : tie.Need-enum-known-progress Inv-loop μ-loop
-enum-known-progress c = search needs
-
-ended-requires : tie.Need-ended-requires Inv-loop μ-loop
-ended-requires c κs = search needs
-
-same-length : tie.Need-same-length Inv-loop μ-loop
-same-length c = search needs
-
 returns : tie.Need-returns Inv-loop μ-loop
 returns c =
     let d = c .before .before .before .before .before .before in
@@ -37,9 +25,6 @@ returns c =
     let e = d .read-more .ensures in
     let n = filling-read f _ _ (e .0) (e .1 .0) (omega arith) (f .within) in
     rw (c .ended .ensures) (filling-ended n _ _ (omega arith) (e .1 .1) (c .before .before .progress .given .1))
-
-enum-known-progress-2 : tie.Need-enum-known-progress-2 Inv-loop μ-loop
-enum-known-progress-2 c = search needs
 
 loop-less : tie.Need-loop-less Inv-loop μ-loop
 loop-less c =
@@ -68,12 +53,12 @@ fill-spec =
     Inv-loop
     μ-loop
     loop-holds
-    read-more-requires
-    enum-known-progress
-    ended-requires
-    same-length
+    (λ c κs. search needs)
+    (λ c. search needs)
+    (λ c κs. search needs)
+    (λ c. search needs)
     returns
-    enum-known-progress-2
+    (λ c. search needs)
     loop-less
     loop-again
     same-length-2

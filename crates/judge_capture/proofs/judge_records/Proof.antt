@@ -1,103 +1,98 @@
+-- `judge_capture::judge_records` meets its contract: each turn keeps `Looping` (proofs/Runs.antt). At `d` a record has been judged.
+-- The measure is the records that are left of 2^64 - 1.
+use Prim.Native.Nat.{_-_, _^_}
+use mathlib.Core.Path.{refl}
+use native.Mathlib.Omega.{arith}
+use borrow.Author.Needs.{needs}
+use lib.ListN.{length}
+use Rattle.key_book.specs.Book.{bookOf}
+use Rattle.judge_capture.specs.Window.{window}
+use Rattle.judge_capture.proofs.Runs.{judging-start, judging-turn, judged, Looping}
 use Rattle.judge_capture.proofs.judge_records.Statement.{statement}
 use Rattle.judge_capture.proofs.judge_records.Tie as tie
 
 abbrev Inv-loop : tie.InvT-loop
 Inv-loop fd order room₀ first first-have ids lengths store received₀ sent rows out₀ size₀ number₀ from₀ have₀ room received out size number from have =
-    ?
+    Looping order (bookOf ids lengths store received₀ sent rows) (window room₀ first first-have) (length room₀) (length out₀) room received out size number
+    from have
 
 abbrev μ-loop : tie.MeasureT-loop
 μ-loop fd order room₀ first first-have ids lengths store received₀ sent rows out₀ size₀ number₀ from₀ have₀ room received out size number from have =
-    ?
+    2 ^ 64 - number
 
 loop-holds : tie.Need-loop-holds Inv-loop μ-loop
-loop-holds c = ?
+loop-holds c =
+    record {
+      ordered = search needs;
+      within = search needs;
+      long = refl;
+      counters = refl;
+      out-long = refl;
+      waiting = search needs;
+      judging = judging-start _ _ _;
+    }
 
 next-record-requires : tie.Need-next-record-requires Inv-loop μ-loop
-next-record-requires c κs = ?
-
-enum-known-next : tie.Need-enum-known-next Inv-loop μ-loop
-enum-known-next c = ?
-
-slice-aggregate-finish : tie.Need-slice-aggregate-finish Inv-loop μ-loop
-slice-aggregate-finish c = ?
-
-is-cut-requires : tie.Need-is-cut-requires Inv-loop μ-loop
-is-cut-requires c κs = ?
+next-record-requires c κs = let l = c .before .before .loop .inv in (l .ordered, (l .within, omega (arith, l .long)))
 
 finish-requires : tie.Need-finish-requires Inv-loop μ-loop
-finish-requires c κs = ?
-
-same-length : tie.Need-same-length Inv-loop μ-loop
-same-length c = ?
-
-same-length-2 : tie.Need-same-length-2 Inv-loop μ-loop
-same-length-2 c = ?
+finish-requires c κs = let l = c .before .before .before .before .before .before .before .before .loop .inv in omega (arith, l .waiting, l .out-long)
 
 returns : tie.Need-returns Inv-loop μ-loop
-returns c = ?
-
-add-number : tie.Need-add-number Inv-loop μ-loop
-add-number c = ?
+returns c = judged (c .before .before .before .before .before .before .before .before .before .before .loop .inv .judging)
 
 sub-record-line : tie.Need-sub-record-line Inv-loop μ-loop
-sub-record-line c = ?
+sub-record-line c = let t = rw (c .before .next .given .1) at (c .before .before .before .before .before .next-record .ensures) in t .frame-ordered
 
 part-record-line-start : tie.Need-part-record-line-start Inv-loop μ-loop
-part-record-line-start c = ?
+part-record-line-start c =
+    let t = rw (c .before .before .next .given .1) at (c .before .before .before .before .before .before .next-record .ensures) in
+    t .frame-ordered
 
 part-record-line-end : tie.Need-part-record-line-end Inv-loop μ-loop
-part-record-line-end c = ?
-
-record-line-requires : tie.Need-record-line-requires Inv-loop μ-loop
-record-line-requires c κs = ?
-
-slice-aggregate-add-line : tie.Need-slice-aggregate-add-line Inv-loop μ-loop
-slice-aggregate-add-line c = ?
+part-record-line-end c =
+    let t = rw (c .before .before .next .given .1) at (c .before .before .before .before .before .before .next-record .ensures) in
+    omega (arith, t .frame-within, t .within)
 
 add-line-requires : tie.Need-add-line-requires Inv-loop μ-loop
-add-line-requires c κs = ?
-
-slice-aggregate-make-room : tie.Need-slice-aggregate-make-room Inv-loop μ-loop
-slice-aggregate-make-room c = ?
+add-line-requires c κs =
+    let d = c .before .before .before in
+    let l = d .before .before .before .before .before .before .before .before .before .before .before .before .loop .inv in
+    omega (arith, l .waiting, l .out-long)
 
 make-room-requires : tie.Need-make-room-requires Inv-loop μ-loop
-make-room-requires c κs = ?
-
-enum-known-waiting : tie.Need-enum-known-waiting Inv-loop μ-loop
-enum-known-waiting c = ?
-
-enum-told : tie.Need-enum-told Inv-loop μ-loop
-enum-told c = ?
-
-same-length-3 : tie.Need-same-length-3 Inv-loop μ-loop
-same-length-3 c = ?
-
-same-length-4 : tie.Need-same-length-4 Inv-loop μ-loop
-same-length-4 c = ?
+make-room-requires c κs =
+    let d = c .before .before .before .before .before .before in
+    let l = d .before .before .before .before .before .before .before .before .before .before .before .before .loop .inv in
+    (omega (arith, l .waiting, l .out-long), c .before .before .add-line .ensures .1)
 
 returns-2 : tie.Need-returns-2 Inv-loop μ-loop
-returns-2 c = ?
-
-loop-less : tie.Need-loop-less Inv-loop μ-loop
-loop-less c = ?
+returns-2 c =
+    let d = c .before .before .before .before .before .before .before .before .before in
+    let t = rw (d .before .before .before .before .before .next .given .1) at (d .before .before .before .before .before .before .before .before .before .next-record .ensures) in
+    judged (judging-turn _ _ _ (d .before .before .before .before .before .before .before .before .before .before .before .before .loop .inv .judging) t (d .record-line .ensures .1))
 
 loop-again : tie.Need-loop-again Inv-loop μ-loop
-loop-again c = ?
-
-slice-aggregate-finish-2 : tie.Need-slice-aggregate-finish-2 Inv-loop μ-loop
-slice-aggregate-finish-2 c = ?
+loop-again c =
+    let d = c .before .before .before .before .before .before .before .before .before .before in
+    let l = d .before .before .before .before .before .before .before .before .before .before .before .before .loop .inv in
+    let t = rw (d .before .before .before .before .before .next .given .1) at (d .before .before .before .before .before .before .before .before .before .next-record .ensures) in
+    let w = rw (c .before .waiting .given .1) at (c .before .before .before .make-room .ensures) in
+    record {
+      ordered = t .frame-within;
+      within = t .within;
+      long = search needs;
+      counters = search needs;
+      out-long = search needs;
+      waiting = search needs;
+      judging = judging-turn _ _ _ (l .judging) t (d .record-line .ensures .1);
+    }
 
 finish-requires-2 : tie.Need-finish-requires-2 Inv-loop μ-loop
-finish-requires-2 c κs = ?
-
-same-length-5 : tie.Need-same-length-5 Inv-loop μ-loop
-same-length-5 c = ?
-
-same-length-6 : tie.Need-same-length-6 Inv-loop μ-loop
-same-length-6 c = ?
+finish-requires-2 c κs = let l = c .before .before .loop .inv in omega (arith, l .waiting, l .out-long)
 
 returns-3 : tie.Need-returns-3 Inv-loop μ-loop
-returns-3 c = ?
+returns-3 c = judged (c .before .before .before .before .loop .inv .judging)
 
 pub judge-records-spec : {M : Type 1} → statement M
 judge-records-spec =
@@ -107,31 +102,31 @@ judge-records-spec =
     μ-loop
     loop-holds
     next-record-requires
-    enum-known-next
-    slice-aggregate-finish
-    is-cut-requires
+    (λ c. search needs)
+    (λ c. search needs)
+    (λ c κs. search needs)
     finish-requires
-    same-length
-    same-length-2
+    (λ c. search needs)
+    (λ c. search needs)
     returns
-    add-number
+    (λ c. search needs)
     sub-record-line
     part-record-line-start
     part-record-line-end
-    record-line-requires
-    slice-aggregate-add-line
+    (λ c κs. search needs)
+    (λ c. search needs)
     add-line-requires
-    slice-aggregate-make-room
+    (λ c. search needs)
     make-room-requires
-    enum-known-waiting
-    enum-told
-    same-length-3
-    same-length-4
+    (λ c. search needs)
+    (λ c. search needs)
+    (λ c. search needs)
+    (λ c. search needs)
     returns-2
-    loop-less
+    (λ c. search needs)
     loop-again
-    slice-aggregate-finish-2
+    (λ c. search needs)
     finish-requires-2
-    same-length-5
-    same-length-6
+    (λ c. search needs)
+    (λ c. search needs)
     returns-3)

@@ -35,7 +35,9 @@ returns-5 c =
     let g = rw (c .before .before .before .before .before .before .before .before .before .before .before .gathered2 .given .1) at (c .before .before .before .before .before .before .before .before .before .before .before .before .before .before .before .gather .ensures) in
     let o = g .0 .ordered in
     let n = g .1 in
-    record-there (g .0) (omega arith) (omega arith) _ _ (omega arith) (sym (c .before .before .before .before .before .before .before .record-header .ensures) ∙ c .before .before .before .before .before .header .given .1) _ (c .before .before .gather-frame .ensures)
+    let f = c .before .before .gather-frame in
+    let e = sym (c .before .before .before .before .before .before .before .record-header .ensures) ∙ c .before .before .before .before .before .header .given .1 in
+    record-there (g .0) (omega arith) (omega arith) _ (f .last .1 .0) (omega arith) e (f .result) (f .ensures)
 
 pub next-record-spec : {M : Type 1} → statement M
 next-record-spec =
