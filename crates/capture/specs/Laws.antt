@@ -38,7 +38,8 @@ pub record IsRecord (order : Order) (s : List ℕ) (captured original : ℕ) : T
   pub original-length : numberAt order s originalAt ≡ original
 
 pub record RecordHeaderSays : Type 0 where
-  pub record-there : (order : Order) (s : List ℕ) (captured original : ℕ) → (recordHeaderOf order s ≡ Frame captured original) ↔ IsRecord order s captured original
+  pub record-there : (order : Order) (s : List ℕ) (captured original : ℕ)
+      → (recordHeaderOf order s ≡ Frame captured original) ↔ IsRecord order s captured original
   pub cut-there : (order : Order) (s : List ℕ)
       → (recordHeaderOf order s ≡ Cut) ↔ ((length s < recordHeaderSize) ⊎ (frameMost < numberAt order s capturedAt))
 

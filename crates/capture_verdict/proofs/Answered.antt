@@ -5,7 +5,7 @@ use mathlib.Core.List.{List, [], _∷_}
 use mathlib.Core.Option.{Option, none, some}
 use Rattle.key_book.specs.Book.{Book}
 use Rattle.demands.specs.Demand3.{check, bookAfter, answers, ending}
-use Rattle.capture.specs.Records.{Record, Records, recordsOf}
+use Rattle.capture.specs.Records.{Record}
 use Rattle.capture.specs.Frame.{payloadOf}
 use Rattle.capture_verdict.specs.Lines.{recordLine, bookBy, recordLines, bookAtEnd, linesIn, linesOf}
 use Rattle.capture_verdict.specs.Laws.{checkThen, checksOf, Tells, nothing, skips, says, VerdictsAreAnswers}

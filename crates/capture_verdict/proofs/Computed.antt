@@ -24,5 +24,10 @@ use Rattle.capture_verdict.specs.Lines.{recordLine, receivedBy, linesOf,
 use Rattle.capture_verdict.specs.Examples.{RecordingExample}
 
 pub recording-example : RecordingExample
-unfolding hmac masked md5 padded padding blocks compress round steps stepAt stepWith rotl auxiliary wordNo additive rotations load loadTo output saidOf checkedOf checkedTokens decodeAt saidBy formOf imageOf written sound sized ascending keySizes allBelow placeFrom rowIn keyFits keyIn sameBytes judgedRow judgedSaid admittedSaid checkOf le value littleAt bigAt frontOf frontFrom rowsInFront readCard filled slotsOf loaded readOf rowsIn readBook readable loadedOf bookLoaded be acceptedLine refusedLine numberedLine decimal digitsTo numberAt isEthernet fileHeaderOf recordHeaderOf recordsTo recordsFrom recordsOf fieldAt isWholeUdp lengthsFit isDhcpPort isDhcp datagramPlace placeOf payloadOf recordLine receivedBy linesOf linesOfFiles
+unfolding hmac masked md5 padded padding blocks compress round steps stepAt stepWith rotl auxiliary wordNo additive rotations load loadTo output
+    saidOf checkedOf checkedTokens decodeAt saidBy formOf imageOf written sound sized ascending keySizes allBelow placeFrom rowIn keyFits keyIn
+    sameBytes judgedRow judgedSaid admittedSaid checkOf le value littleAt bigAt frontOf frontFrom rowsInFront readCard filled slotsOf loaded readOf
+    rowsIn readBook readable loadedOf bookLoaded be acceptedLine refusedLine numberedLine decimal digitsTo numberAt isEthernet fileHeaderOf
+    recordHeaderOf recordsTo recordsFrom recordsOf fieldAt isWholeUdp lengthsFit isDhcpPort isDhcp datagramPlace placeOf payloadOf recordLine
+    receivedBy linesOf linesOfFiles
 recording-example = record { by-book-B = refl; no-record = refl; no-capture = refl; bad-card = λ capture. refl }

@@ -1,16 +1,14 @@
 -- One record, by whether it has a payload: its line, the received counters and the book afterwards. The only law file that unfolds `recordLine` and
 -- `receivedBy`.
 use Prim.Native.Nat.{ℕ, _+_, _-_}
-use mathlib.Core.Path.{_≡_, refl, sym, ap, _∙_}
+use mathlib.Core.Path.{_≡_, sym, ap, _∙_}
 use mathlib.Core.List.{List}
 use mathlib.Core.Option.{none, some}
 use native.Mathlib.Omega.{arith}
 use lib.ListN.{take, drop}
-use Rattle.key_book.specs.Book.{Book, bookOf}
-use Rattle.delayed_auth.specs.declared.Verdict.{Verdict}
+use Rattle.key_book.specs.Book.{Book}
 use Rattle.delayed_auth.specs.Check.{checkOf, receivedAfter}
 use Rattle.demands.specs.Demand3.{check, bookAfter}
-use Rattle.verdict_line.specs.declared.Line.{Line}
 use Rattle.verdict_line.specs.declared.Line.the-variants.{Skipped}
 use Rattle.file_verdict.specs.Files.{verdictLine}
 use Rattle.capture.specs.declared.Payload.the-variants.{At}

@@ -1,9 +1,8 @@
 -- What is written for any two files: what the card gives (file_verdict, proofs/Cards.antt), and then the capture's lines.
 use Prim.Native.Nat.{ℕ}
-use mathlib.Core.Path.{_≡_, refl, sym, ap, _∙_}
+use mathlib.Core.Path.{_≡_, sym, ap, _∙_}
 use mathlib.Core.List.{List, [], _∷_}
 use mathlib.Core.Option.{Option, none, some}
-use lib.ListN.{length}
 use Rattle.key_book.specs.Book.{Book}
 use Rattle.verdict_line.specs.declared.Line.{Line}
 use Rattle.verdict_line.specs.declared.Line.the-variants.{Unreadable}

@@ -1,6 +1,6 @@
 -- Record by record: what the records in front of the bytes are (capture, `RecordsSay` and `RecordHeaderSays`), as lines.
 use Prim.Native.Nat.{ℕ, suc, _+_, _≤_, _<_}
-use mathlib.Core.Path.{_≡_, refl, sym, ap, _∙_}
+use mathlib.Core.Path.{_≡_, ap, _∙_}
 use mathlib.Core.Logic.{_⊎_, inl, inr}
 use mathlib.Core.List.{List, [], _∷_, _++_}
 use native.Mathlib.Omega.{arith}
@@ -12,7 +12,6 @@ use Rattle.capture.specs.declared.Order.{Order}
 use Rattle.capture.specs.declared.RecordHeader.the-variants.{Cut as HeaderCut, Frame}
 use Rattle.capture.specs.Layout.{recordHeaderSize, capturedAt, frameMost}
 use Rattle.capture.specs.Records.{Records, numberAt, cutHere, recordHeaderOf, recordsFrom}
-use Rattle.capture.specs.Laws.{IsRecord}
 use Rattle.capture.proofs.Headers.{number-in-front, record-header-says}
 use Rattle.capture.proofs.Records.{records-say}
 use Rattle.capture_verdict.specs.Lines.{recordLine, bookBy, linesFor, linesFrom, linesIn, linesOf}

@@ -1,7 +1,7 @@
 -- From a book and a capture to the lines that `judge_capture` writes: docs/RULES.md, 'A recording'. The records are judged in the file's order, each by
 -- the book as the one before it left it.
 use Prim.Native.Nat.{ℕ, suc}
-use mathlib.Core.Bool.{Bool, cond}
+use mathlib.Core.Bool.{cond}
 use mathlib.Core.List.{List, [], _∷_, _++_}
 use mathlib.Core.Option.{Option, none, some}
 use Rattle.key_book.specs.Book.{Book, bookOf}

@@ -11,7 +11,7 @@ use Rattle.capture.specs.declared.RecordHeader.the-variants.{Frame}
 use Rattle.capture.specs.Layout.{fileHeaderSize, recordHeaderSize, frameMost}
 use Rattle.capture.specs.Records.{fileHeaderOf, recordHeaderOf}
 use Rattle.capture.proofs.Headers.{record-header-says}
-use Rattle.judge_capture.specs.Window.{window, Grown, FrameGathers, RecordThere, NextIs, CaptureThere}
+use Rattle.judge_capture.specs.Window.{window, Grown, FrameGathers, NextIs, CaptureThere}
 use Rattle.judge_capture.specs.declared.Next.{Next}
 use Rattle.judge_capture.specs.declared.Next.the-variants.{Record, AtEnd, Cut}
 use Rattle.judge_capture.proofs.Windows.{window-parts}
@@ -35,7 +35,8 @@ module _ {old room : List ℕ} {at behind end : ℕ} (g : Grown old room at end)
   header-there : length (window room at behind) ≡ behind - at
   header-there = let h = g .within in window-size room at behind b (omega arith)
 
-  pub capture-there : {order : Order} → behind - at ≡ fileHeaderSize → fileHeaderOf (window room at behind) ≡ Ethernet order → CaptureThere room order behind end
+  pub capture-there : {order : Order} → behind - at ≡ fileHeaderSize → fileHeaderOf (window room at behind) ≡ Ethernet order
+      → CaptureThere room order behind end
   capture-there z e = record { ordered = w; within = g .within; header = window room at behind; header-size = header-there ∙ z; header-says = e }
 
   pub record-there : (order : Order) {captured original : ℕ} (after : List ℕ) → behind - at ≡ recordHeaderSize

@@ -26,7 +26,10 @@ grown-front old room have size h w e =
       ordered = omega arith;
       within = w;
       read = drop have (take size room);
-      holds = ap (λ (n : ℕ). take n room) n ∙ sym (take-append-drop have (take size room)) ∙ ap (λ (s : List ℕ). s ++ drop have (take size room)) (take-take have size room h ∙ e);
+      holds =
+          ap (λ (n : ℕ). take n room) n
+          ∙ sym (take-append-drop have (take size room))
+          ∙ ap (λ (s : List ℕ). s ++ drop have (take size room)) (take-take have size room h ∙ e);
     }
 
 -- the window in two parts

@@ -8,7 +8,9 @@ returns : tie.Need-returns
 returns c = card-stopped _ (c .before .loaded .given .1)
 
 returns-2 : tie.Need-returns-2
-returns-2 c = card-rows _ _ _ _ _ (c .before .before .before .before .before .before .before .before .before .before .loaded2 .given .1) _ (c .before .before .message-line .ensures .0)
+returns-2 c =
+    let m = c .before .before in
+    card-rows _ _ _ _ _ (m .before .before .before .before .before .before .before .before .loaded2 .given .1) _ (m .message-line .ensures .0)
 
 pub loaded-line-spec : {M : Type 1} → statement M
 loaded-line-spec =

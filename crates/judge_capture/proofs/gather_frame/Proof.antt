@@ -7,12 +7,14 @@ use Rattle.judge_capture.proofs.gather_frame.Tie as tie
 
 add-t12 : tie.Need-add-t12
 add-t12 c =
-    let g = rw (c .before .gathered .given .1) at (c .before .before .before .before .before .gather .ensures) in
+    let d = c .before in
+    let g = rw (d .gathered .given .1) at (d .before .before .before .before .gather .ensures) in
     omega (arith, g .0 .ordered, g .0 .within, g .1)
 
 returns-2 : tie.Need-returns-2
 returns-2 c =
-    let g = rw (c .before .gathered .given .1) at (c .before .before .before .before .before .gather .ensures) in
+    let d = c .before in
+    let g = rw (d .gathered .given .1) at (d .before .before .before .before .gather .ensures) in
     let o = g .0 .ordered in
     let w = g .1 in
     record { grown = g .0; frame-ends = omega arith; frame-ordered = omega arith; frame-within = omega arith; handed-on = refl }

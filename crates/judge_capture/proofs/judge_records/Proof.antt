@@ -69,14 +69,16 @@ make-room-requires c κs =
 returns-2 : tie.Need-returns-2 Inv-loop μ-loop
 returns-2 c =
     let d = c .before .before .before .before .before .before .before .before .before in
-    let t = rw (d .before .before .before .before .before .next .given .1) at (d .before .before .before .before .before .before .before .before .before .next-record .ensures) in
-    judged (judging-turn _ _ _ (d .before .before .before .before .before .before .before .before .before .before .before .before .loop .inv .judging) t (d .record-line .ensures .1))
+    let n = d .before .before .before .before .before in
+    let t = rw (n .next .given .1) at (n .before .before .before .before .next-record .ensures) in
+    judged (judging-turn _ _ _ (n .before .before .before .before .before .before .before .loop .inv .judging) t (d .record-line .ensures .1))
 
 loop-again : tie.Need-loop-again Inv-loop μ-loop
 loop-again c =
     let d = c .before .before .before .before .before .before .before .before .before .before in
-    let l = d .before .before .before .before .before .before .before .before .before .before .before .before .loop .inv in
-    let t = rw (d .before .before .before .before .before .next .given .1) at (d .before .before .before .before .before .before .before .before .before .next-record .ensures) in
+    let n = d .before .before .before .before .before in
+    let l = n .before .before .before .before .before .before .before .loop .inv in
+    let t = rw (n .next .given .1) at (n .before .before .before .before .next-record .ensures) in
     let w = rw (c .before .waiting .given .1) at (c .before .before .before .make-room .ensures) in
     record {
       ordered = t .frame-within;

@@ -5,7 +5,8 @@ use Rattle.judge_capture.proofs.main.Tie as tie
 
 judge-records-requires : tie.Need-judge-records-requires
 judge-records-requires c κs =
-    let o = rw (c .before .before .before .before .before .before .before .opening .given .1) at (c .before .before .before .before .before .before .before .before .before .before .open-capture .ensures) in
+    let d = c .before .before .before .before .before .before .before in
+    let o = rw (d .opening .given .1) at (d .before .before .before .open-capture .ensures) in
     (o .ordered, (o .within, search needs))
 
 pub main-spec : {M : Type 1} → statement M

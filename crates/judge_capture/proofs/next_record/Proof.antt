@@ -8,22 +8,26 @@ use Rattle.judge_capture.proofs.next_record.Tie as tie
 
 returns : tie.Need-returns
 returns c =
-    let g = rw (c .before .before .gathered .given .1) at (c .before .before .before .before .before .before .gather .ensures) in
+    let d = c .before .before in
+    let g = rw (d .gathered .given .1) at (d .before .before .before .before .gather .ensures) in
     at-end (g .0) (search needs)
 
 add-behind : tie.Need-add-behind
 add-behind c =
-    let g = rw (c .before .gathered2 .given .1) at (c .before .before .before .before .before .gather .ensures) in
+    let d = c .before in
+    let g = rw (d .gathered2 .given .1) at (d .before .before .before .before .gather .ensures) in
     omega (arith, g .0 .ordered, g .0 .within, g .1)
 
 part-record-header-end : tie.Need-part-record-header-end
 part-record-header-end c =
-    let g = rw (c .before .before .gathered2 .given .1) at (c .before .before .before .before .before .before .gather .ensures) in
+    let d = c .before .before in
+    let g = rw (d .gathered2 .given .1) at (d .before .before .before .before .gather .ensures) in
     omega (arith, g .0 .ordered, g .0 .within, g .1)
 
 gather-frame-requires : tie.Need-gather-frame-requires
 gather-frame-requires c κs =
-    let g = rw (c .before .before .before .before .before .before .before .before .gathered2 .given .1) at (c .before .before .before .before .before .before .before .before .before .before .before .before .gather .ensures) in
+    let d = c .before .before .before .before .before .before .before .before in
+    let g = rw (d .gathered2 .given .1) at (d .before .before .before .before .gather .ensures) in
     let h = captured-most _ _ (sym (c .before .before .before .before .record-header .ensures) ∙ c .before .before .header .given .1) in
     let o = g .0 .ordered in
     let w = g .0 .within in
@@ -32,11 +36,13 @@ gather-frame-requires c κs =
 
 returns-5 : tie.Need-returns-5
 returns-5 c =
-    let g = rw (c .before .before .before .before .before .before .before .before .before .before .before .gathered2 .given .1) at (c .before .before .before .before .before .before .before .before .before .before .before .before .before .before .before .gather .ensures) in
+    let d = c .before .before .before .before .before .before .before .before .before .before .before in
+    let g = rw (d .gathered2 .given .1) at (d .before .before .before .before .gather .ensures) in
     let o = g .0 .ordered in
     let n = g .1 in
     let f = c .before .before .gather-frame in
-    let e = sym (c .before .before .before .before .before .before .before .record-header .ensures) ∙ c .before .before .before .before .before .header .given .1 in
+    let h = c .before .before .before .before .before in
+    let e = sym (h .before .before .record-header .ensures) ∙ h .header .given .1 in
     record-there (g .0) (omega arith) (omega arith) _ (f .last .1 .0) (omega arith) e (f .result) (f .ensures)
 
 pub next-record-spec : {M : Type 1} → statement M

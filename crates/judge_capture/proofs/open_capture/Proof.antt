@@ -8,17 +8,20 @@ use Rattle.judge_capture.proofs.open_capture.Tie as tie
 
 add-behind : tie.Need-add-behind
 add-behind c =
-    let g = rw (c .before .gathered .given .1) at (c .before .before .before .before .before .fill .ensures) in
+    let d = c .before in
+    let g = rw (d .gathered .given .1) at (d .before .before .before .before .fill .ensures) in
     omega (arith, g .0 .ordered, g .0 .within, g .1)
 
 part-file-header-end : tie.Need-part-file-header-end
 part-file-header-end c =
-    let g = rw (c .before .before .gathered .given .1) at (c .before .before .before .before .before .before .fill .ensures) in
+    let d = c .before .before in
+    let g = rw (d .gathered .given .1) at (d .before .before .before .before .fill .ensures) in
     omega (arith, g .0 .ordered, g .0 .within, g .1)
 
 returns-3 : tie.Need-returns-3
 returns-3 c =
-    let g = rw (c .before .before .before .before .before .before .before .gathered .given .1) at (c .before .before .before .before .before .before .before .before .before .before .before .fill .ensures) in
+    let d = c .before .before .before .before .before .before .before in
+    let g = rw (d .gathered .given .1) at (d .before .before .before .before .fill .ensures) in
     let o = g .0 .ordered in
     let n = g .1 in
     capture-there (g .0) (omega arith) (omega arith) (omega arith) (sym (c .before .before .before .file-header .ensures) ∙ c .before .header .given .1)

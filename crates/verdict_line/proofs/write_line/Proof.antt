@@ -9,7 +9,9 @@ slice-aggregate-put-made : tie.Need-slice-aggregate-put-made
 slice-aggregate-put-made c = let m = c .before .before .before .put-line .ensures in made-size (m .put) (omega arith)
 
 returns : tie.Need-returns
-returns c = let m = c .before .before .before .before .before .before .put-line .ensures in made-put (m .put) (omega arith) _ _ (m .most) (c .before .before .put-made .ensures)
+returns c =
+    let m = c .before .before .before .before .before .before .put-line .ensures in
+    made-put (m .put) (omega arith) _ _ (m .most) (c .before .before .put-made .ensures)
 
 pub write-line-spec : {M : Type 1} → statement M
 write-line-spec =

@@ -20,21 +20,24 @@ array-share-prefix-made : tie.Need-array-share-prefix-made
 array-share-prefix-made c =
     let l = c .before .before in
     let s = l .before .before .before .before .before .before .before .before .before .before in
-    let n = numbered-made (s .args .line) (search needs) (s .fits .number .fits) (l .before .before .before .before .before .before .before .put-decimal .ensures) (l .before .before .before .put .ensures) (l .put-line .ensures) in
+    let p = l .before .before .before in
+    let n = numbered-made (s .args .line) (search needs) (s .fits .number .fits) (p .before .before .before .before .put-decimal .ensures) (p .put .ensures) (l .put-line .ensures) in
     omega (arith, n .0 .place, n .1)
 
 slice-aggregate-put-made : tie.Need-slice-aggregate-put-made
 slice-aggregate-put-made c =
     let l = c .before .before .before in
     let s = l .before .before .before .before .before .before .before .before .before .before in
-    let n = numbered-made (s .args .line) (search needs) (s .fits .number .fits) (l .before .before .before .before .before .before .before .put-decimal .ensures) (l .before .before .before .put .ensures) (l .put-line .ensures) in
+    let p = l .before .before .before in
+    let n = numbered-made (s .args .line) (search needs) (s .fits .number .fits) (p .before .before .before .before .put-decimal .ensures) (p .put .ensures) (l .put-line .ensures) in
     made-size (n .0) (omega (arith, n .1))
 
 returns : tie.Need-returns
 returns c =
     let l = c .before .before .before .before .before .before in
     let s = l .before .before .before .before .before .before .before .before .before .before in
-    let n = numbered-made (s .args .line) (search needs) (s .fits .number .fits) (l .before .before .before .before .before .before .before .put-decimal .ensures) (l .before .before .before .put .ensures) (l .put-line .ensures) in
+    let p = l .before .before .before in
+    let n = numbered-made (s .args .line) (search needs) (s .fits .number .fits) (p .before .before .before .before .put-decimal .ensures) (p .put .ensures) (l .put-line .ensures) in
     made-put (n .0) (omega (arith, n .1)) _ _ (n .1) (c .before .before .put-made .ensures)
 
 pub write-numbered-spec : {M : Type 1} → statement M
