@@ -87,35 +87,21 @@ fn refused_7() {
 
 #[test]
 fn rows_and_counters_are_written_in_full() {
-    let row = |id, received, key: &[u8]| Row {
-        id,
-        received,
-        sent: 0,
-        key: key.to_vec(),
-    };
-    let mut rows: Vec<Row> = (0..64).map(|id| row(id, 0, &[9; 64])).collect();
+    let mut rows: Vec<Row> = (0..64).map(|id| Row::new(id, &[9; 64])).collect();
     rows[63].received = u64::MAX - 1;
     let card = card_of_rows(&rows);
     assert_eq!(card.len(), 5_638);
 
-    let last = signed(&[9; 64], 63, u64::MAX);
+    let last = messages::signed(&[9; 64], 63, u64::MAX);
     let line = "accepted row 63 counter 18446744073709551615\n";
     assert_eq!(judged_files(&card, &last), line);
-    let first = signed(&[9; 64], 0, 1);
+    let first = messages::signed(&[9; 64], 0, 1);
     assert_eq!(judged_files(&card, &first), "accepted row 0 counter 1\n");
-    let tenth = signed(&[9; 64], 10, 1_000_000);
+    let tenth = messages::signed(&[9; 64], 10, 1_000_000);
     let line = "accepted row 10 counter 1000000\n";
     assert_eq!(judged_files(&card, &tenth), line);
-    let zero = signed(&[9; 64], 5, 0);
+    let zero = messages::signed(&[9; 64], 5, 0);
     assert_eq!(judged_files(&card, &zero), "refused 11\n");
-}
-
-/// Bench example 9's message signed anew.
-fn signed(key: &[u8], id: u32, counter: u64) -> Vec<u8> {
-    let mut message = accepted_by_b();
-    let shape = reference::message::full_form(&message).expect("in full form");
-    reference::auth::sign(&mut message, &shape, key, id, counter);
-    message
 }
 
 #[test]
@@ -139,14 +125,7 @@ fn the_card_is_judged_first() {
     for message in messages {
         assert_eq!(judged(At::File(&longer), message), "refused 15\n");
     }
-    let rows_65: Vec<Row> = (0..65)
-        .map(|id| Row {
-            id,
-            received: 0,
-            sent: 0,
-            key: vec![1],
-        })
-        .collect();
+    let rows_65: Vec<Row> = (0..65).map(|id| Row::new(id, &[1])).collect();
     let line = judged_files(&card_of_rows(&rows_65), &accepted_by_b());
     assert_eq!(line, "refused 15\n");
 }

@@ -147,20 +147,19 @@ fn first_record(order: Order, bytes: &[u8]) -> Option<(Record<'_>, &[u8])> {
     Some((record, &bytes[RECORD_HEADER + captured..]))
 }
 
-/// What is said of a record: a check's answer on its payload, where it has one that is judged.
+/// What is said of a record: a check's answer on its payload, where it was captured whole and has
+/// one that is judged.
 fn said_of(book: &mut Book, record: &Record) -> String {
-    match payload(record) {
-        Some(message) => in_words(&check(book, message)),
-        None => "skipped".to_string(),
+    let is_whole = record.frame.len() == record.original as usize;
+    match payload(record.frame) {
+        Some(message) if is_whole => in_words(&check(book, message)),
+        _ => "skipped".to_string(),
     }
 }
 
-/// The payload of a record that was captured whole, from its frame inwards.
-fn payload<'a>(record: &Record<'a>) -> Option<&'a [u8]> {
-    if record.frame.len() != record.original as usize {
-        return None;
-    }
-    in_udp(in_ip(in_ethernet(record.frame)?)?)
+/// The payload of a whole frame, where it has one that is judged.
+pub fn payload(frame: &[u8]) -> Option<&[u8]> {
+    in_udp(in_ip(in_ethernet(frame)?)?)
 }
 
 /// What an Ethernet frame of IPv4's type carries, padding included.
@@ -176,12 +175,12 @@ fn in_ip(packet: &[u8]) -> Option<&[u8]> {
     let (version, words) = (fixed[0] / 16, fixed[0] % 16);
     let header = 4 * usize::from(words);
     let total = number(&fixed[2..4]) as usize;
-    let is_whole = number(&fixed[6..8]) & FRAGMENTS == 0;
+    let fragments = number(&fixed[6..8]) & FRAGMENTS;
     let is_judged = version == 4
         && header >= IP_HEADER_LEAST
         && header <= total
         && total <= packet.len()
-        && is_whole
+        && fragments == 0
         && fixed[9] == PROTOCOL_UDP;
     is_judged.then(|| &packet[header..total])
 }
