@@ -17,4 +17,5 @@ pub mod lent;
 pub mod outside;
 pub mod programs;
 pub mod random;
+pub mod recordings;
 pub mod runs;

@@ -23,21 +23,24 @@ pub enum At<'a> {
     Link(&'a [u8]),
     /// A link to nothing.
     LooseLink,
+    /// Zeros without end.
+    Endless,
     Folder,
 }
 
 pub fn put(folder: &Folder, name: &str, what: At) {
     let path = folder.path().join(name);
     let linked = format!("{name}.linked");
-    let link = || symlink(&linked, &path).expect("a link can be made");
+    let link_to = |file: &str| symlink(file, &path).expect("a link can be made");
     match what {
         At::Nothing => {}
         At::File(bytes) => folder.write(name, bytes),
         At::Link(bytes) => {
             folder.write(&linked, bytes);
-            link();
+            link_to(&linked);
         }
-        At::LooseLink => link(),
+        At::LooseLink => link_to(&linked),
+        At::Endless => link_to("/dev/zero"),
         At::Folder => fs::create_dir(&path).expect("a folder can be made"),
     }
 }
@@ -95,7 +98,8 @@ pub fn judged_in_pieces(program: &Path, folder: &Folder, name: &str, pieces: &[&
     })
 }
 
-/// A disk that is slow or breaks. It takes a program that calls the C library's `read` and `write`.
+/// A disk that is slow or breaks, and a reader that is slow. It takes a program that calls the C
+/// library's `read` and `write`.
 pub struct Disk {
     built: Folder,
 }
