@@ -16,7 +16,8 @@ Contracts (src/**/*.rt)
    (`now (p .exit) ≡ ..`, perhaps as an argument of what builds a record of its arguments). Such an equation stands under no premise. Its right side
    names a definition of specs/ and, unless all is lent for writing, a parameter; it names neither the result nor anything `.exit`. Every word of it
    is known. Every clause names a definition of specs/; every parameter stands in an equation; no parameter hides a name. Behind `λ r.` no name
-   is bound but by a `let x = .. in` at the clause's front, and that name is nobody else's.
+   is bound but by a `let x = .. in` at the clause's front, and that name is nobody else's. The functions of READING are the only ones without such
+   equations, since what is read no contract can say: each of them still speaks of its result and of everything lent to it for writing.
 Names (src/ and specs/)
  - The names of LIBRARY come from their library path alone, the names of LENT from nowhere; neither is given another meaning in specs/.
    Contracts take nothing else from a library, definitions no other operator; specs/ has no operator of its own.
@@ -91,6 +92,15 @@ THEOREMS = [
     ("file_verdict", "Says", "content-says", "ContentSays"),
     ("file_verdict", "Says", "line-says", "LineSays"),
     ("file_verdict", "Computed", "example-9", "Example9"),
+    ("capture", "Headers", "header-says", "HeaderSays"),
+    ("capture", "Headers", "record-header-says", "RecordHeaderSays"),
+    ("capture", "Records", "records-say", "RecordsSay"),
+    ("capture", "Payloads", "payload-says", "PayloadSays"),
+    ("capture", "Computed", "capture-examples", "CaptureExamples"),
+    ("capture_verdict", "Answered", "verdicts-are-answers", "VerdictsAreAnswers"),
+    ("capture_verdict", "Stepped", "by-record", "ByRecord"),
+    ("capture_verdict", "Says", "lines-say", "LinesSay"),
+    ("capture_verdict", "Computed", "recording-example", "RecordingExample"),
     ("demands", "Demand1", "demand-1", "Demand1"),
     ("demands", "Demand2", "demand-2", "Demand2"),
     ("demands", "Demand3", "demand-3", "Demand3"),
@@ -110,10 +120,19 @@ DATA = [
     ("key_book", "Book"),
     ("book_card", "Row"),
     ("book_card", "FrontRows"),
+    ("capture", "Record"),
+    ("capture", "Records"),
 ]
 
 # Crates whose functions serve the other crates and are no entries: they may ask something of their callers, since every caller is proved to give it.
 SERVING = ("octets",)
+
+# crate and name of the public functions whose answer depends on what is read from a file. No other may lack an equation.
+READING = [
+    ("program_files", "read_more"),
+    ("program_files", "read_file"),
+    ("program_files", "load_book"),
+]
 
 # Proof files of examples and of the RFCs' vectors: everything that they prove is a listed statement.
 VECTOR_FILES = ("Vectors", "Computed", "Examples")
@@ -154,6 +173,7 @@ class Lists:
 
     theorems: list = field(default_factory=lambda: THEOREMS)
     data: list = field(default_factory=lambda: DATA)
+    reading: list = field(default_factory=lambda: READING)
 
 
 class Crate:
@@ -299,7 +319,7 @@ class Reading:
         return cls(words[1], said, lets, [pair for pair in sides if len(pair) == 2])
 
 
-def contract_faults(crates):
+def contract_faults(crates, lists):
     for crate in crates.values():
         for path, source in crate.src.items():
             imported = imports(crate, crates, source)
@@ -311,8 +331,13 @@ def contract_faults(crates):
                     for fault in clause_faults(clause, {*imported}):
                         yield f"{place}, line {clause.line}: {fault}"
                 if function.public and path != "src/main.rt":
-                    for fault in public_faults(function, imported, source.structs, crate.name in SERVING):
+                    reads = (crate.name, function.name) in lists.reading and not function.owner
+                    for fault in public_faults(function, imported, source.structs, crate.name in SERVING, reads):
                         yield f"{place} {fault}"
+    for crate_name, name in lists.reading:
+        sources = crates[crate_name].src.values() if crate_name in crates else []
+        if not any(each.name == name and each.public and not each.owner for source in sources for each in source.functions):
+            yield f"{crate_name} has no public function `{name}`, which is listed as one that reads"
 
 
 def handed_on_faults(crates):
@@ -361,7 +386,7 @@ def imports(crate, crates, source):
     return found
 
 
-def public_faults(function, imported, structs, serving):
+def public_faults(function, imported, structs, serving, reads):
     cited = {name for name, source in imported.items() if source}
     names = [parameter.name for parameter in function.parameters]
     given = {parameter.name for parameter in function.parameters if not parameter.lent_mutably}
@@ -376,7 +401,7 @@ def public_faults(function, imported, structs, serving):
             yield f"has a clause `{clause.kind}`"
     readings = [reading for clause in function.all("ensures") if (reading := Reading.of(clause, {*imported, *names}))]
     for reading in readings:
-        if not cited & set(reading.words):
+        if not reads and not cited & set(reading.words):
             yield f"has an `ensures` that names no definition of specs/: `{' '.join(reading.words)}`"
         for word in sorted({*BINDERS} & {*reading.words}):
             yield f"has an `ensures` that binds a name by `{word}`, which may hide the result or a parameter"
@@ -384,6 +409,9 @@ def public_faults(function, imported, structs, serving):
     lets = {name for reading in readings for name in reading.lets}
     for name in ({*names} | results | lets) & {*imported, *LENT} | lets & {*LIBRARY} | (results | lets) & {*names} | results & lets:
         yield f"hides the name `{name}`"
+    if reads:
+        yield from unspoken(function, readings)
+        return
     equations = [
         (reading.result, left, right)
         for reading in readings
@@ -394,6 +422,20 @@ def public_faults(function, imported, structs, serving):
     for name in names:
         if not any(name in left + right for _, left, right in equations):
             yield f"says nothing of its parameter `{name}`"
+
+
+def unspoken(function, readings):
+    """What no clause of a function that reads speaks of: its result, or what is behind a `&mut` afterwards."""
+    if function.result not in ("", "()") and not any(reading.result in reading.words for reading in readings):
+        yield "reads, and says nothing of its result"
+    for parameter in function.parameters:
+        if parameter.lent_mutably and not any(holds_words(reading.words, [parameter.name, ".exit"]) for reading in readings):
+            yield f"reads, and says nothing of `{parameter.name}` afterwards"
+
+
+def holds_words(words, wanted):
+    """These words stand in it, one behind another."""
+    return any(words[place : place + len(wanted)] == wanted for place in range(len(words)))
 
 
 def settles(reading, right, cited):
@@ -707,7 +749,7 @@ def one_edit_faults(crate, edit):
 
 def all_faults(root, lists):
     crates = crates_of(root)
-    yield from contract_faults(crates)
+    yield from contract_faults(crates, lists)
     yield from handed_on_faults(crates)
     yield from name_faults(crates)
     yield from text_faults(crates)

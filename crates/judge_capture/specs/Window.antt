@@ -43,15 +43,15 @@ Gathers old want room (Ended left) = Grown old room 0 left × (left < want)
 Gathers old want room Failed = Unit {0}
 
 -- a frame of so many bytes at the front of the window, and that length handed on
-pub record FrameThere (old room : List ℕ) (captured original at end length have : ℕ) : Type 0 where
+pub record FrameThere (old room : List ℕ) (captured original at end whole have : ℕ) : Type 0 where
   pub grown : Grown old room at have
   pub frame-ends : end - at ≡ captured
   pub frame-ordered : at ≤ end
   pub frame-within : end ≤ have
-  pub handed-on : length ≡ original
+  pub handed-on : whole ≡ original
 
 abbrev pub FrameGathers : List ℕ → List ℕ → ℕ → ℕ → Next → Type 0
-FrameGathers old room captured original (Record at end length have) = FrameThere old room captured original at end length have
+FrameGathers old room captured original (Record at end whole have) = FrameThere old room captured original at end whole have
 FrameGathers old room captured original AtEnd = ⊥
 FrameGathers old room captured original Cut = Unit {0}
 
