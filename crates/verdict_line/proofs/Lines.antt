@@ -64,12 +64,13 @@ module _ {out : List ℕ} {at : ℕ} (room : at + lineMost ≤ length out) where
 -- with a number in front of it
 pub numbered-made : {out : List ℕ} {number : ℕ} (line : Line) {o₁ o₂ o₃ : List ℕ} {p₁ p₂ p₃ : ℕ} → numberedMost ≤ length out → number < 2 ^ 64
     → PutAt out 0 (decimal number) o₁ p₁ → PutAt o₁ p₁ space o₂ p₂ → Made o₂ p₂ (lineOf line) o₃ p₃
-    → PutAt out 0 (numberedLine number line) o₃ p₃ × (length (numberedLine number line) ≤ numberedMost)
+    → PutAt out 0 (numberedLine number line) o₃ p₃ × (p₃ ≤ numberedMost)
 unfolding numberedLine
 numbered-made {number = number} line room h s₁ s₂ m =
     let a = length-word number h in
     let l = m .most in
-    (put-next (simp length-append (omega arith)) (put-next (omega arith) s₁ s₂) (m .put), numbered-most number line h l)
+    let p = put-next (simp length-append (omega arith)) (put-next (omega arith) s₁ s₂) (m .put) in
+    (p, omega (arith, p .place, numbered-length number line))
 
 -- what is written never passes the room
 pub size-fits : (line : List ℕ) (room : ℕ) → sizeIn line room ≤ room

@@ -96,6 +96,16 @@ fn put_line(out: &mut [u8], at: usize, line: Line) -> usize
     }
 }
 
+// Puts a line with a number and a space in front of it at the front of a room that any such line fits, and returns its size.
+fn put_numbered(out: &mut [u8], number: u64, line: Line) -> usize
+    requires { ⌜ numberedMost ≤ length (now out) ⌝ }
+    ensures { λ r. ⌜ PutAt (now (out .entry)) 0 (numberedLine number line) (now (out .exit)) r × (r ≤ numberedMost) ⌝ }
+{
+    let end = put_decimal(out, 0, number);
+    let at = put(out, end, b" ");
+    put_line(out, at, line)
+}
+
 // Copies a made line to the front of the lent room where it fits, and returns its size; else it writes nothing and returns 0.
 fn put_made(out: &mut [u8], made: &[u8]) -> usize
     ensures size { λ r. ⌜ r ≡ sizeIn (now (made .entry)) (length (now (out .entry))) ⌝ }
@@ -126,8 +136,6 @@ pub fn write_numbered(out: &mut [u8], number: u64, line: Line) -> usize
     ensures whole { λ r. ⌜ (numberedMost ≤ length (now (out .entry)) → r ≡ length (numberedLine number line)) ⌝ }
 {
     let mut made = [0u8; NUMBERED_MOST];
-    let end = put_decimal(&mut made, 0, number);
-    let at = put(&mut made, end, b" ");
-    let size = put_line(&mut made, at, line);
+    let size = put_numbered(&mut made, number, line);
     put_made(out, &made[..size])
 }
