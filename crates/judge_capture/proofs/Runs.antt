@@ -10,10 +10,10 @@ use Rattle.verdict_line.specs.Line.{numberedMost, numberedLine}
 use Rattle.capture.specs.declared.Order.{Order}
 use Rattle.capture.specs.declared.RecordHeader.the-variants.{Frame}
 use Rattle.capture.specs.Records.{recordHeaderOf}
-use Rattle.capture_verdict.specs.Lines.{recordLine, receivedBy, linesFrom}
+use Rattle.capture_verdict.specs.Lines.{recordLine, receivedBy, linesFrom, linesOf}
 use Rattle.capture_verdict.proofs.Stepped.{by-record}
-use Rattle.judge_capture.specs.Window.{window, RecordThere}
-use Rattle.judge_capture.specs.Judging.{withReceived, Judging, Judged}
+use Rattle.judge_capture.specs.Window.{window, RecordThere, CaptureThere}
+use Rattle.judge_capture.specs.Judging.{withReceived, Judging, Judged, Recorded}
 use Rattle.judge_capture.proofs.Windows.{window-parts}
 use Rattle.judge_capture.proofs.Taken.{window-size}
 
@@ -63,6 +63,24 @@ module _ (order : Order) (b : Book) (first : List ℕ) {received left : List ℕ
 
 pub judged : {order : Order} {b : Book} {first received left : List ℕ} {number : ℕ} → Judging order b first received number left → Judged order b first received
 judged {left = left} {number = number} j = record { number = number; left = left; so-far = j }
+
+-- the whole recording: its header, then what the loop judged
+pub recorded : {order : Order} {b : Book} {room received : List ℕ} {start held : ℕ} → CaptureThere room order start held
+    → Judged order b (window room start held) received → Recorded b received
+recorded {order} {b} {room} {received} {start} {held} c j =
+    let first = window room start held in
+    let read = j .so-far .read in
+    record {
+      front = c .header ++ (first ++ read);
+      lines = j .so-far .lines;
+      order = order;
+      number = j .number;
+      left = j .left;
+      goes-on = λ rest.
+          ap (linesOf b) (append-assoc (c .header) (first ++ read) rest ∙ ap (λ (s : List ℕ). c .header ++ s) (append-assoc first read rest))
+          ∙ by-record .opened b order (c .header) (first ++ (read ++ rest)) (c .header-size) (c .header-says)
+          ∙ j .so-far .goes-on rest;
+    }
 
 -- ---- what each turn keeps
 pub record Looping (order : Order) (b : Book) (first : List ℕ) (room-size out-size : ℕ) (room received out : List ℕ) (size number from have : ℕ) : Type 0 where

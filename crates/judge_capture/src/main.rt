@@ -10,7 +10,7 @@ ghost use Rattle.key_book.specs.Book.{bookOf};
 ghost use Rattle.verdict_line.specs.Line.{numberedMost, numberedLine, PutAt};
 ghost use Rattle.capture.specs.Layout.{fileHeaderSize, frameMost};
 ghost use Rattle.judge_capture.specs.Window.{window, endedBy, Gathers, FrameGathers, NextIs, RoomMade, OpensAs};
-ghost use Rattle.judge_capture.specs.Judging.{Judged};
+ghost use Rattle.judge_capture.specs.Judging.{Judged, RecordingJudged};
 use capture::FILE_HEADER_SIZE;
 use capture::FileHeader;
 use capture::Order;
@@ -217,8 +217,8 @@ fn judge_records(
     fd: i32,
     order: Order,
     room: &mut [u8],
-    first: usize,
-    first_have: usize,
+    start: usize,
+    held: usize,
     ids: &[u32],
     lengths: &[u8],
     store: &[u8],
@@ -226,22 +226,22 @@ fn judge_records(
     sent: &[u64],
     rows: usize,
 )
-    requires { ⌜ first ≤ «first_have» ⌝ }
-    requires { ⌜ «first_have» ≤ length (now room) ⌝ }
+    requires { ⌜ start ≤ held ⌝ }
+    requires { ⌜ held ≤ length (now room) ⌝ }
     requires { ⌜ frameMost ≤ length (now room) ⌝ }
     ensures { λ _. ⌜
         (let b = bookOf (now (ids .entry)) (now (lengths .entry)) (now (store .entry)) (now (received .entry)) (now (sent .entry)) rows in
-        Judged order b (window (now (room .entry)) first «first_have») (now (received .exit)))
+        Judged order b (window (now (room .entry)) start held) (now (received .exit)))
         ⌝ }
 {
     let mut out = [0u8; ROOM];
     let mut size: usize = 0;
     let mut number: u64 = 0;
-    let mut from = first;
-    let mut have = first_have;
+    let mut from = start;
+    let mut have = held;
     while number < u64::MAX {
         let next = next_record(fd, order, room, from, have);
-        let Next::Record(at, end, original, window) = next else {
+        let Next::Record(at, end, original, until) = next else {
             finish(&mut out, size, is_cut(next));
             return;
         };
@@ -263,7 +263,7 @@ fn judge_records(
         };
         size = left;
         from = end;
-        have = window;
+        have = until;
     }
     finish(&mut out, size, false);
 }
@@ -291,23 +291,20 @@ fn write_unreadable() {
     io::write_all(STDOUT_FILENO, &out[..size]);
 }
 
-fn main() {
-    let mut ids = [0u32; ROWS_MOST];
-    let mut lengths = [0u8; ROWS_MOST];
-    let mut store = [0u8; ROWS_MOST * SLOT_SIZE];
-    let mut received = [0u64; ROWS_MOST];
-    let mut sent = [0u64; ROWS_MOST];
-    let loaded = program_files::load_book(
-        &mut ids,
-        &mut lengths,
-        &mut store,
-        &mut received,
-        &mut sent,
-    );
-    let Loaded::Rows(rows) = loaded else {
-        write_unreadable();
-        return;
-    };
+// Judges the recording by the lent book, if there is one.
+fn judge_recording(
+    ids: &[u32],
+    lengths: &[u8],
+    store: &[u8],
+    received: &mut [u64],
+    sent: &[u64],
+    rows: usize,
+)
+    ensures { λ _. ⌜
+        (let b = bookOf (now (ids .entry)) (now (lengths .entry)) (now (store .entry)) (now (received .entry)) (now (sent .entry)) rows in
+        RecordingJudged b (now (received .exit)))
+        ⌝ }
+{
     let fd = os::open_read(b"church.pcap");
     if fd < 0 {
         write_unreadable();
@@ -323,12 +320,31 @@ fn main() {
             &mut room,
             from,
             have,
-            &ids,
-            &lengths,
-            &store,
-            &mut received,
-            &sent,
+            ids,
+            lengths,
+            store,
+            received,
+            sent,
             rows,
         ),
+    }
+}
+
+fn main() {
+    let mut ids = [0u32; ROWS_MOST];
+    let mut lengths = [0u8; ROWS_MOST];
+    let mut store = [0u8; ROWS_MOST * SLOT_SIZE];
+    let mut received = [0u64; ROWS_MOST];
+    let mut sent = [0u64; ROWS_MOST];
+    let loaded = program_files::load_book(
+        &mut ids,
+        &mut lengths,
+        &mut store,
+        &mut received,
+        &mut sent,
+    );
+    match loaded {
+        Loaded::Stopped(line) => write_unreadable(),
+        Loaded::Rows(rows) => judge_recording(&ids, &lengths, &store, &mut received, &sent, rows),
     }
 }

@@ -12,12 +12,12 @@ use Rattle.judge_capture.proofs.judge_records.Statement.{statement}
 use Rattle.judge_capture.proofs.judge_records.Tie as tie
 
 abbrev Inv-loop : tie.InvT-loop
-Inv-loop fd order room₀ first first-have ids lengths store received₀ sent rows out₀ size₀ number₀ from₀ have₀ room received out size number from have =
-    Looping order (bookOf ids lengths store received₀ sent rows) (window room₀ first first-have) (length room₀) (length out₀) room received out size number
+Inv-loop fd order room₀ start held ids lengths store received₀ sent rows out₀ size₀ number₀ from₀ have₀ room received out size number from have =
+    Looping order (bookOf ids lengths store received₀ sent rows) (window room₀ start held) (length room₀) (length out₀) room received out size number
     from have
 
 abbrev μ-loop : tie.MeasureT-loop
-μ-loop fd order room₀ first first-have ids lengths store received₀ sent rows out₀ size₀ number₀ from₀ have₀ room received out size number from have =
+μ-loop fd order room₀ start held ids lengths store received₀ sent rows out₀ size₀ number₀ from₀ have₀ room received out size number from have =
     2 ^ 64 - number
 
 loop-holds : tie.Need-loop-holds Inv-loop μ-loop
