@@ -7,7 +7,7 @@ use compare::generate::captures::{of_records, Record};
 use compare::generate::frames::Draft;
 use compare::generate::{books, captures, cards, frames, messages};
 use compare::harness::{cases, for_each_case, on_bytes, Difference, Tally};
-use compare::outside::{ended_within, judge_capture, run_within, started, Folder};
+use compare::outside::{ended_within, judge_capture, repository_file, run_within, started, Folder};
 use compare::programs::{contents, judged_by, judged_in_pieces, pipe, At, Disk, CARD};
 use compare::random::Random;
 use compare::recordings::{
@@ -17,7 +17,7 @@ use compare::recordings::{
 use reference::capture::{judged_where_a_read_fails, Order, FRAME_MOST};
 use reference::card::{card_of_rows, rows_of_book, Row};
 use reference::examples::{frame_of_b, recordings_of_b, refused_by_b, CARD_B, CARD_EMPTY};
-use std::fs::File;
+use std::fs::{self, File};
 use std::io::Read;
 use std::process::{Command, Stdio};
 use std::time::Duration;
@@ -38,6 +38,17 @@ fn recordings_written_by_hand() {
         let twice = [&capture[..], &capture[24..]].concat();
         assert_eq!(agreed(&twice), format!("{ACCEPTED}2 refused 11\n"));
     }
+}
+
+/// The recording that tcpdump made of a real exchange, which the toolchain's own run judges too, gets
+/// the same lines from the second implementation.
+#[test]
+fn recording_of_an_exchange() {
+    let data = |name: &str| fs::read(repository_file(&format!("crates/judge_capture/{name}")));
+    let [card, capture, expected] = ["data/book.card", "data/church.pcap", "stdout"]
+        .map(|name| data(name).expect("the program's own example can be read"));
+    let text = both(&card, &capture).expect("both judge it alike");
+    assert_eq!(text.as_bytes(), expected);
 }
 
 /// Refusals 2, 3, 4, 5, 8, 9, 10, 11 and 12, bench examples 3 to 9, in one file.
