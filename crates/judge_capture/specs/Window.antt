@@ -2,20 +2,24 @@
 -- were read as a part: nothing is lost before them, and nothing altered.
 use Prim.Native.Nat.{ℕ, _+_, _-_, _≤_, _<_}
 use mathlib.Core.Path.{_≡_}
-use mathlib.Core.List.{List, [], _++_}
+use mathlib.Core.Bool.{Bool, true, false}
+use mathlib.Core.List.{List, [], _∷_, _++_}
 use lib.ListN.{length, take, drop}
 use Rattle.file_verdict.specs.declared.Content.{Content}
 use Rattle.file_verdict.specs.declared.Content.the-variants.{Unreadable, Size}
-use Rattle.verdict_line.specs.Line.{numberedMost}
+use Rattle.key_book.specs.Book.{Book}
+use Rattle.verdict_line.specs.declared.Line.the-variants.{Cut as CutLine}
+use Rattle.verdict_line.specs.Line.{numberedMost, lineOf}
 use Rattle.capture.specs.declared.Order.{Order}
 use Rattle.capture.specs.declared.FileHeader.the-variants.{Ethernet}
 use Rattle.capture.specs.declared.RecordHeader.the-variants.{Frame}
 use Rattle.capture.specs.Layout.{fileHeaderSize, recordHeaderSize}
 use Rattle.capture.specs.Records.{fileHeaderOf, recordHeaderOf}
+use Rattle.capture_verdict.specs.Lines.{linesFrom}
 use Rattle.judge_capture.specs.declared.Gathered.{Gathered}
 use Rattle.judge_capture.specs.declared.Gathered.the-variants.{Window, Ended, Failed}
 use Rattle.judge_capture.specs.declared.Next.{Next}
-use Rattle.judge_capture.specs.declared.Next.the-variants.{Record, AtEnd, Cut}
+use Rattle.judge_capture.specs.declared.Next.the-variants.{Record, AtEnd, Cut, Failed as NextFailed}
 use Rattle.judge_capture.specs.declared.Waiting.{Waiting}
 use Rattle.judge_capture.specs.declared.Waiting.the-variants.{Size as Waits, Broken}
 use Rattle.judge_capture.specs.declared.Opening.{Opening}
@@ -50,10 +54,16 @@ pub record FrameThere (old room : List ℕ) (captured original at end whole have
   pub frame-within : end ≤ have
   pub handed-on : whole ≡ original
 
+-- the file ended before so many bytes
+pub record FrameShort (old : List ℕ) (captured : ℕ) : Type 0 where
+  pub read : List ℕ
+  pub short : length (old ++ read) < captured
+
 abbrev pub FrameGathers : List ℕ → List ℕ → ℕ → ℕ → Next → Type 0
 FrameGathers old room captured original (Record at end whole have) = FrameThere old room captured original at end whole have
 FrameGathers old room captured original AtEnd = ⊥
-FrameGathers old room captured original Cut = Unit {0}
+FrameGathers old room captured original Cut = FrameShort old captured
+FrameGathers old room captured original NextFailed = Unit {0}
 
 -- the bytes begin with a record's header, and the window with the frame that it tells of
 pub record RecordThere (order : Order) (old room : List ℕ) (at end original have : ℕ) : Type 0 where
@@ -66,10 +76,23 @@ pub record RecordThere (order : Order) (old room : List ℕ) (at end original ha
   pub read : List ℕ
   pub holds : old ++ read ≡ header ++ window room at have
 
+-- the bytes, and what was read behind them to the file's end or a header's, give the line `cut` and no other
+pub record CutThere (order : Order) (old : List ℕ) : Type 0 where
+  pub read : List ℕ
+  pub cut : (b : Book) (n : ℕ) → linesFrom order b n (old ++ read) ≡ lineOf CutLine ∷ []
+
 abbrev pub NextIs : Order → List ℕ → List ℕ → Next → Type 0
 NextIs order old room (Record at end original have) = RecordThere order old room at end original have
 NextIs order old room AtEnd = old ≡ []
-NextIs order old room Cut = Unit {0}
+NextIs order old room Cut = CutThere order old
+NextIs order old room NextFailed = Unit {0}
+
+-- whether the line `cut` is written
+abbrev pub isCut : Next → Bool
+isCut (Record at end original have) = false
+isCut AtEnd = false
+isCut Cut = true
+isCut NextFailed = true
 
 -- there is room for one more line behind those that wait, in a room of so many bytes
 abbrev pub RoomMade : ℕ → Waiting → Type 0

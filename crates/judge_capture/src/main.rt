@@ -9,7 +9,7 @@ ghost use lib.ListN.{length, take};
 ghost use Rattle.key_book.specs.Book.{bookOf};
 ghost use Rattle.verdict_line.specs.Line.{numberedMost, numberedLine, PutAt};
 ghost use Rattle.capture.specs.Layout.{fileHeaderSize, frameMost};
-ghost use Rattle.judge_capture.specs.Window.{window, endedBy, Gathers, FrameGathers, NextIs, RoomMade, OpensAs};
+ghost use Rattle.judge_capture.specs.Window.{window, endedBy, Gathers, FrameGathers, NextIs, isCut, RoomMade, OpensAs};
 ghost use Rattle.judge_capture.specs.Judging.{Judged, RecordingJudged};
 use capture::FILE_HEADER_SIZE;
 use capture::FileHeader;
@@ -45,8 +45,10 @@ enum Next {
     Record(usize, usize, usize, usize),
     // There is none.
     AtEnd,
-    // The file is cut.
+    // The file ends inside it, or its captured length is too large.
     Cut,
+    // A read failed.
+    Failed,
 }
 
 // The lines that wait to be written.
@@ -135,10 +137,11 @@ fn gather_frame(
     ensures { λ r. ⌜ FrameGathers (window (now (room .entry)) from have) (now (room .exit)) captured original r ⌝ }
 {
     let gathered = gather(fd, room, from, have, captured);
-    let Gathered::Window(at, end) = gathered else {
-        return Next::Cut;
-    };
-    Next::Record(at, at + captured, original, end)
+    match gathered {
+        Gathered::Failed => Next::Failed,
+        Gathered::Ended(left) => Next::Cut,
+        Gathered::Window(at, end) => Next::Record(at, at + captured, original, end),
+    }
 }
 
 // Takes the header of the next record, and then gathers its frame: so the largest frame fits the room.
@@ -150,7 +153,7 @@ fn next_record(fd: i32, order: Order, room: &mut [u8], from: usize, have: usize)
 {
     let gathered = gather(fd, room, from, have, RECORD_HEADER_SIZE);
     match gathered {
-        Gathered::Failed => Next::Cut,
+        Gathered::Failed => Next::Failed,
         Gathered::Ended(left) => {
             if left == 0 {
                 return Next::AtEnd;
@@ -192,11 +195,15 @@ fn make_room(out: &[u8], size: usize) -> Waiting
     Waiting::Size(0)
 }
 
-fn is_cut(next: Next) -> bool {
+// Whether the line `cut` is written where this comes next.
+fn is_cut(next: Next) -> bool
+    ensures { λ r. ⌜ r ≡ isCut next ⌝ }
+{
     match next {
         Next::Record(at, end, original, have) => false,
         Next::AtEnd => false,
         Next::Cut => true,
+        Next::Failed => true,
     }
 }
 

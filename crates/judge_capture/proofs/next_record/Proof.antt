@@ -1,7 +1,7 @@
 -- `judge_capture::next_record` meets its contract: the file has ended; or a header is taken, and then the frame of which it tells (proofs/Taken.antt).
 use mathlib.Core.Path.{sym, _∙_}
 use native.Mathlib.Omega.{arith}
-use Rattle.judge_capture.proofs.Taken.{at-end, captured-most, record-there}
+use Rattle.judge_capture.proofs.Taken.{at-end, captured-most, header-short, header-cut, record-there}
 use borrow.Author.Needs.{needs}
 use Rattle.judge_capture.proofs.next_record.Statement.{statement}
 use Rattle.judge_capture.proofs.next_record.Tie as tie
@@ -24,6 +24,14 @@ part-record-header-end c =
     let g = rw (d .gathered2 .given .1) at (d .before .before .before .before .gather .ensures) in
     omega (arith, g .0 .ordered, g .0 .within, g .1)
 
+returns-2 : tie.Need-returns-2
+returns-2 c =
+    let d = c .before .before .before .before .before .before in
+    let g = rw (d .gathered2 .given .1) at (d .before .before .before .before .gather .ensures) in
+    let n = g .1 in
+    let o = g .0 .ordered in
+    header-cut (g .0) (omega arith) (omega arith) _ (omega arith) (sym (c .before .before .record-header .ensures) ∙ c .enum-told2 .given .1)
+
 gather-frame-requires : tie.Need-gather-frame-requires
 gather-frame-requires c κs =
     let d = c .before .before .before .before .before .before .before .before in
@@ -34,6 +42,12 @@ gather-frame-requires c κs =
     let n = g .1 in
     (omega arith, (omega arith, omega arith))
 
+returns-4 : tie.Need-returns-4
+returns-4 c =
+    let d = c .before .before in
+    let g = rw (d .gathered .given .1) at (d .before .before .before .before .gather .ensures) in
+    header-short _ (g .0) (search needs) (g .1)
+
 returns-5 : tie.Need-returns-5
 returns-5 c =
     let d = c .before .before .before .before .before .before .before .before .before .before .before in
@@ -43,7 +57,7 @@ returns-5 c =
     let f = c .before .before .gather-frame in
     let h = c .before .before .before .before .before in
     let e = sym (h .before .before .record-header .ensures) ∙ h .header .given .1 in
-    record-there (g .0) (omega arith) (omega arith) _ (f .last .1 .0) (omega arith) e (f .result) (f .ensures)
+    record-there (g .0) (omega arith) (omega arith) _ (omega arith) (f .last .1 .0) e (f .result) (f .ensures)
 
 pub next-record-spec : {M : Type 1} → statement M
 next-record-spec =
@@ -63,11 +77,11 @@ next-record-spec =
     (λ c. search needs)
     (λ c. search needs)
     (λ c. search needs)
-    (λ c. search needs)
+    returns-2
     gather-frame-requires
     (λ c. search needs)
     (λ c. search needs)
     (λ c. search needs)
-    (λ c. search needs)
+    returns-4
     (λ c. search needs)
     returns-5)
