@@ -45,6 +45,12 @@ static void put(FILE *file, const void *bytes, size_t size)
         fail("a file can't be written");
 }
 
+static void close_written(FILE *file)
+{
+    if (fclose(file))
+        fail("a file can't be written");
+}
+
 /* A capture's numbers have the lowest byte first here, a frame's fields the highest. */
 static void put_number(FILE *file, uint32_t x)
 {
@@ -69,15 +75,15 @@ static void write_card(const struct book *b)
                               &size))
         fail("the card is refused");
     put(file, card, (size_t)size);
-    fclose(file);
+    close_written(file);
 }
 
 /* The headers, and an ACK with a lease, a table's name, option 90 in full form, End and zeros. */
 static void make_frame(uint8_t *frame)
 {
     static const uint8_t ip[] = {0x45, 0, 0, 0, 0, 0, 0, 0, 64, 17, 0, 0, 10, 9, 0, 1, 10, 9, 0, 2};
-    static const uint8_t options[] = {99, 130, 83, 99, 53, 1, 5, 54, 4, 10, 9, 0, 1, 51, 4, 0, 0, 14, 16, 67, 4, 's', 'o', 'f', 't',
-                                      90, 31, 1, 1, 0};
+    static const uint8_t options[] = {99, 130, 83, 99, 53, 1, 5, 54, 4, 10, 9, 0, 1, 51, 4, 0, 0, 14, 16,
+                                      67, 4, 's', 'o', 'f', 't', 90, 31, 1, 1, 0};
     uint8_t *message = frame + HEADERS_SIZE;
 
     memset(frame, 0, FRAME_SIZE);
@@ -116,8 +122,7 @@ static void write_recording(struct book *b)
         put_number(file, FRAME_SIZE);
         put(file, frame, FRAME_SIZE);
     }
-    if (fclose(file))
-        fail("a file can't be written");
+    close_written(file);
 }
 
 int main(void)

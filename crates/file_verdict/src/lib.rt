@@ -1,6 +1,7 @@
 // From the bytes of `book.card` and `message.bin` to the line that the program `judge` writes: docs/RULES.md, 'The program'.
-// The card is judged first (`load_card`), and only where it gives rows is there a message to judge (`message_line`).
-// Not here: opening and reading the files (judge), and the line's bytes (verdict_line).
+// The card is judged first (`load_card`), and only where it gives rows is there a message to judge (`message_line`). The card, and the line for what a
+// check said (`line_of`), are those of the program `judge_capture` too.
+// Not here: opening and reading the files (program_files), and the line's bytes (verdict_line).
 //
 // The book is lent as ids, key lengths, key store, received counters, sent counters and row count, in this order.
 ghost use mathlib.Core.Path.{_≡_};
