@@ -99,6 +99,7 @@ THEOREMS = [
     ("capture", "Computed", "capture-examples", "CaptureExamples"),
     ("capture_verdict", "Answered", "verdicts-are-answers", "VerdictsAreAnswers"),
     ("capture_verdict", "Stepped", "by-record", "ByRecord"),
+    ("capture_verdict", "Says", "failure-says", "FailureSays"),
     ("capture_verdict", "Says", "lines-say", "LinesSay"),
     ("capture_verdict", "Computed", "recording-example", "RecordingExample"),
     ("demands", "Demand1", "demand-1", "Demand1"),

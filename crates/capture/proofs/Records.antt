@@ -1,6 +1,7 @@
 -- The records of a file: `recordsTo`, `recordsFrom` and `recordsOf`, and what they say. The only law file that unfolds these three.
 use Prim.Native.Nat.{ℕ, zero, suc, _+_, _≤_, _<_}
 use mathlib.Core.Path.{_≡_, refl, sym, ap, _∙_}
+use mathlib.Core.Logic.{_⊎_, inl, inr}
 use mathlib.Core.Bool.{Bool, true, false, cond}
 use mathlib.Core.List.{List, [], _++_}
 use mathlib.Core.Option.{none, some}
@@ -17,7 +18,7 @@ use Rattle.capture.specs.declared.RecordHeader.the-variants.{Cut, Frame}
 use Rattle.capture.specs.Records.{numberAt, fileHeaderOf, recordHeaderOf, Records, atEnd, cutHere, before, recordThen}
 use Rattle.capture.specs.Records.{recordsTo, recordsFrom, recordsBy, recordsOf}
 use Rattle.capture.specs.Laws.{RecordsSay}
-use Rattle.capture.proofs.Headers.{number-in-front, header-in-front, record-short, record-too-long, record-frame}
+use Rattle.capture.proofs.Headers.{number-in-front, header-short, header-in-front, record-short, record-too-long, record-frame, record-header-says}
 
 -- ---- the count
 
@@ -133,6 +134,9 @@ records-behind order header rest h e =
     records-of (header ++ rest) order (header-in-front header rest (omega arith) ∙ e)
     ∙ ap (λ (s : List ℕ). some (recordsFrom order s)) (drop-at header rest fileHeaderSize h)
 
+pub records-other : (header rest : List ℕ) → length header ≡ fileHeaderSize → fileHeaderOf header ≡ Other → recordsOf (header ++ rest) ≡ none
+records-other header rest h e = records-none (header ++ rest) (header-in-front header rest (omega arith) ∙ e)
+
 -- ---- what they say
 
 pub records-say : RecordsSay
@@ -142,6 +146,37 @@ records-say = record {
   too-long = records-too-long;
   frame-cut = records-cut;
   next = records-parts;
-  other-header = records-none;
+  short-header = λ file h. records-none file (sym (header-short file h));
+  other-header = records-other;
   behind-header = records-behind;
 }
+
+-- ---- by what a whole header says (`RecordHeaderSays`), with any bytes behind it
+
+module _ (order : Order) (header rest : List ℕ) (h : length header ≡ recordHeaderSize) where
+  there : recordHeaderSize ≤ length (header ++ rest)
+  there = simp length-append (omega arith)
+
+  captured-in-front : numberAt order (header ++ rest) capturedAt ≡ numberAt order header capturedAt
+  captured-in-front = number-in-front order header rest capturedAt (omega arith)
+
+  pub cut-by-header : recordHeaderOf order header ≡ Cut → recordsFrom order (header ++ rest) ≡ cutHere
+  cut-by-header e = by (record-header-says .cut-there order header .0 e)
+    where
+      by : (length header < recordHeaderSize) ⊎ (frameMost < numberAt order header capturedAt) → recordsFrom order (header ++ rest) ≡ cutHere
+      by (inl l) = absurd (omega arith)
+      by (inr l) = records-say .too-long order (header ++ rest) there (rw captured-in-front l)
+
+  pub cut-by-frame : {captured original : ℕ} → recordHeaderOf order header ≡ Frame captured original → length rest < captured
+      → recordsFrom order (header ++ rest) ≡ cutHere
+  cut-by-frame {captured} {original} e l =
+      let r = record-header-says .record-there order header captured original .0 e in
+      let c = captured-in-front ∙ r .captured-length in
+      records-say .frame-cut order (header ++ rest) there (rw c (simp length-append (omega arith)))
+
+pub next-by-header : (order : Order) (header frame rest : List ℕ) → length header ≡ recordHeaderSize → {original : ℕ}
+    → recordHeaderOf order header ≡ Frame (length frame) original
+    → recordsFrom order (header ++ (frame ++ rest)) ≡ before (record { frame = frame; original = original }) (recordsFrom order rest)
+next-by-header order header frame rest h {original} e =
+    let r = record-header-says .record-there order header (length frame) original .0 e in
+    records-say .next order header frame rest h (r .captured-length) (r .captured-most) ∙ rw (r .original-length)

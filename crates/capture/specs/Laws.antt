@@ -56,7 +56,8 @@ pub record RecordsSay : Type 0 where
       → length frame ≤ frameMost
       → recordsFrom order (header ++ (frame ++ rest)) ≡ before (record { frame = frame; original = numberAt order header originalAt }) (recordsFrom order rest)
   -- the whole file
-  pub other-header : (file : List ℕ) → fileHeaderOf file ≡ Other → recordsOf file ≡ none
+  pub short-header : (file : List ℕ) → length file < fileHeaderSize → recordsOf file ≡ none
+  pub other-header : (header rest : List ℕ) → length header ≡ fileHeaderSize → fileHeaderOf header ≡ Other → recordsOf (header ++ rest) ≡ none
   pub behind-header : (order : Order) (header rest : List ℕ) → length header ≡ fileHeaderSize → fileHeaderOf header ≡ Ethernet order
       → recordsOf (header ++ rest) ≡ some (recordsFrom order rest)
 

@@ -1,7 +1,7 @@
 -- A classic capture's bytes as its records: docs/RULES.md, 'A recording'. `RecordsSay` (Laws.antt) has the recursion without the count.
 use Prim.Native.Nat.{ℕ, zero, suc, _+_}
 use mathlib.Core.Bool.{Bool, true, false, cond, _&&_}
-use mathlib.Core.List.{List, [], _∷_}
+use mathlib.Core.List.{List, [], _∷_, _++_}
 use mathlib.Core.Option.{Option, none, some}
 use lib.Dec.{ltb, eqb}
 use lib.ListN.{length, take, drop}
@@ -54,6 +54,10 @@ cutHere = record { whole = []; cut = true }
 
 abbrev pub before : Record → Records → Records
 before r rs = record { whole = r ∷ rs .whole; cut = rs .cut }
+
+-- records in front of others
+abbrev pub inFront : List Record → Records → Records
+inFront rs others = record { whole = rs ++ others .whole; cut = others .cut }
 
 -- the record at the front of the bytes, by its header, and what `rest` makes of those behind it
 abbrev pub recordThen : List ℕ → (List ℕ → Records) → RecordHeader → Records

@@ -1,4 +1,4 @@
--- What is written for any two files: what the card gives (file_verdict, proofs/Cards.antt), and then the capture's lines.
+-- What is written where a read fails, and for any two files: what the card gives (file_verdict, proofs/Cards.antt), and then the capture's lines.
 use Prim.Native.Nat.{ℕ}
 use mathlib.Core.Path.{_≡_, sym, ap, _∙_}
 use mathlib.Core.List.{List, [], _∷_}
@@ -10,12 +10,21 @@ use Rattle.verdict_line.specs.Line.{lineOf}
 use Rattle.file_verdict.specs.declared.Loaded.the-variants.{Stopped}
 use Rattle.file_verdict.specs.Files.{loadedOf, emptyBook}
 use Rattle.file_verdict.proofs.Cards.{card-missing, card-too-large, card-malformed, card-loaded}
-use Rattle.capture_verdict.specs.Lines.{linesOf, linesOn, linesOfFiles}
-use Rattle.capture_verdict.specs.Laws.{LinesSay}
+use Rattle.capture.specs.Records.{Records}
+use Rattle.capture.proofs.Records.{records-say}
+use Rattle.capture_verdict.specs.Lines.{linesIn, linesOf, cutAfter, linesToFailure, linesOn, linesOfFiles}
+use Rattle.capture_verdict.specs.Laws.{FailureSays, LinesSay}
 
 stopped : (card capture : Option (List ℕ)) (line : Line) → Stopped line ≡ loadedOf emptyBook card → linesOfFiles card capture ≡ lineOf Unreadable ∷ []
 unfolding linesOfFiles
 stopped card capture line e = sym (ap (linesOn card capture) e)
+
+pub failure-says : FailureSays
+unfolding linesToFailure
+failure-says = record {
+  behind-header = λ b front records e. ap (λ (r : Option Records). linesIn b (cutAfter r)) e;
+  within-header = λ b front h. ap (λ (r : Option Records). linesIn b (cutAfter r)) (records-say .short-header front h);
+}
 
 pub lines-say : LinesSay
 unfolding linesOfFiles

@@ -11,8 +11,9 @@ use Rattle.refusal.specs.declared.Refusal.the-variants.{Replay}
 use Rattle.card_laws.specs.Examples.{cardB}
 use Rattle.verdict_line.specs.declared.Line.the-variants.{Accepted, Refused, Unreadable, Skipped, Cut}
 use Rattle.verdict_line.specs.Line.{lineOf, numberedLine}
+use Rattle.file_verdict.specs.Files.{emptyBook}
 use Rattle.file_verdict.specs.Example9.{messageWith}
-use Rattle.capture_verdict.specs.Lines.{linesOfFiles}
+use Rattle.capture_verdict.specs.Lines.{linesToFailure, linesOfFiles}
 
 -- a frame from the server's port to the client's, with this payload
 abbrev pub frameOf : List ℕ → List ℕ
@@ -38,5 +39,6 @@ pub record RecordingExample : Type 0 where
   pub by-book-B : linesOfFiles (some cardB) (some recording)
       ≡ numberedLine 1 Skipped ∷ numberedLine 2 (Accepted 0 11) ∷ numberedLine 3 (Refused Replay) ∷ lineOf Cut ∷ []
   pub no-record : linesOfFiles (some cardB) (some (le 4 0xa1b2_c3d4 ++ zeros 16 ++ le 4 1)) ≡ []
+  pub read-failed : linesToFailure emptyBook (le 4 0xa1b2_c3d4 ++ zeros 16 ++ le 4 1) ≡ lineOf Cut ∷ []
   pub no-capture : linesOfFiles (some cardB) none ≡ lineOf Unreadable ∷ []
   pub bad-card : (capture : Option (List ℕ)) → linesOfFiles (some (0 ∷ [])) capture ≡ lineOf Unreadable ∷ []

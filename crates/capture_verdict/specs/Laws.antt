@@ -24,7 +24,7 @@ use Rattle.capture.specs.declared.RecordHeader.the-variants.{Cut as HeaderCut, 
 use Rattle.capture.specs.Layout.{fileHeaderSize, recordHeaderSize}
 use Rattle.capture.specs.Records.{Record, Records, fileHeaderOf, recordHeaderOf, recordsOf}
 use Rattle.capture.specs.Frame.{payloadOf}
-use Rattle.capture_verdict.specs.Lines.{recordLine, bookBy, recordLines, bookAtEnd, numbered, linesFrom, linesOf, linesOfFiles}
+use Rattle.capture_verdict.specs.Lines.{recordLine, bookBy, recordLines, bookAtEnd, numbered, linesFrom, linesOf, linesToFailure, linesOfFiles}
 
 -- ---- the run of checks
 
@@ -59,7 +59,9 @@ pub record VerdictsAreAnswers : Type 0 where
 -- calls answers.
 pub record ByRecord : Type 0 where
   -- the file's header
-  pub other-header : (b : Book) (capture : List ℕ) → fileHeaderOf capture ≡ Other → linesOf b capture ≡ lineOf Unreadable ∷ []
+  pub short-file : (b : Book) (capture : List ℕ) → length capture < fileHeaderSize → linesOf b capture ≡ lineOf Unreadable ∷ []
+  pub other-header : (b : Book) (header rest : List ℕ) → length header ≡ fileHeaderSize → fileHeaderOf header ≡ Other
+      → linesOf b (header ++ rest) ≡ lineOf Unreadable ∷ []
   pub opened : (b : Book) (order : Order) (header rest : List ℕ) → length header ≡ fileHeaderSize → fileHeaderOf header ≡ Ethernet order
       → linesOf b (header ++ rest) ≡ linesFrom order b 1 rest
   -- the file ends here, or inside a record's header
@@ -73,6 +75,14 @@ pub record ByRecord : Type 0 where
   pub next : (order : Order) (b : Book) (n original : ℕ) (header frame rest : List ℕ) → length header ≡ recordHeaderSize
       → recordHeaderOf order header ≡ Frame (length frame) original
       → linesFrom order b n (header ++ (frame ++ rest)) ≡ numberedLine n (recordLine b frame original) ∷ linesFrom order (bookBy b frame original) (suc n) rest
+
+-- ---- a read that fails
+
+-- behind the file's header the whole records in front are judged, and the line `cut` follows; before, nothing is
+pub record FailureSays : Type 0 where
+  pub behind-header : (b : Book) (front : List ℕ) (records : Records) → recordsOf front ≡ some records
+      → linesToFailure b front ≡ numbered 1 (recordLines b (records .whole)) ++ (lineOf Cut ∷ [])
+  pub within-header : (b : Book) (front : List ℕ) → length front < fileHeaderSize → linesToFailure b front ≡ lineOf Unreadable ∷ []
 
 -- ---- any two files
 

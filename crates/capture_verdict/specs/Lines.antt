@@ -1,7 +1,7 @@
 -- From a book and a capture to the lines that `judge_capture` writes: docs/RULES.md, 'A recording'. The records are judged in the file's order, each by
 -- the book as the one before it left it.
 use Prim.Native.Nat.{ℕ, suc}
-use mathlib.Core.Bool.{cond}
+use mathlib.Core.Bool.{true, cond}
 use mathlib.Core.List.{List, [], _∷_, _++_}
 use mathlib.Core.Option.{Option, none, some}
 use Rattle.key_book.specs.Book.{Book, bookOf}
@@ -34,9 +34,13 @@ recordLine b frame original = payloadLine b (payloadOf frame original)
 unfoldable pub receivedBy : Book → List ℕ → ℕ → List ℕ
 receivedBy b frame original = receivedOn b (payloadOf frame original)
 
+-- a book with these received counters
+abbrev pub withReceived : Book → List ℕ → Book
+withReceived b received = bookOf (b .ids) (b .lengths) (b .store) received (b .sent) (b .rows)
+
 -- the book afterwards
 abbrev pub bookBy : Book → List ℕ → ℕ → Book
-bookBy b frame original = bookOf (b .ids) (b .lengths) (b .store) (receivedBy b frame original) (b .sent) (b .rows)
+bookBy b frame original = withReceived b (receivedBy b frame original)
 
 -- ---- the records
 
@@ -71,7 +75,15 @@ linesIn b (some records) = linesFor b 1 records
 unfoldable pub linesOf : Book → List ℕ → List (List ℕ)
 linesOf b capture = linesIn b (recordsOf capture)
 
--- ---- both files: a file is its bytes, or none where it is missing or can't be read
+-- what is written where a read of the capture failed behind these bytes
+abbrev pub cutAfter : Option Records → Option Records
+cutAfter none = none
+cutAfter (some records) = some (record { whole = records .whole; cut = true })
+
+unfoldable pub linesToFailure : Book → List ℕ → List (List ℕ)
+linesToFailure b front = linesIn b (cutAfter (recordsOf front))
+
+-- ---- both files: a file is its bytes, or none where it is missing or can't be read (the capture: to the end of its header)
 
 abbrev pub linesOn : (card capture : Option (List ℕ)) → Loaded → List (List ℕ)
 linesOn card capture (Stopped line) = lineOf Unreadable ∷ []
