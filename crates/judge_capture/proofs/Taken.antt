@@ -4,17 +4,16 @@ use mathlib.Core.Path.{_≡_, refl, sym, ap, _∙_}
 use mathlib.Core.Logic.{_≢_}
 use mathlib.Core.List.{List, [], _∷_, _++_, append-assoc}
 use native.Mathlib.Omega.{arith}
-use lib.ListN.{length, drop, length-drop}
+use lib.ListN.{length, drop, length-append, length-drop}
 use lib.Seq.{length-take-le}
 use Rattle.capture.specs.declared.Order.{Order}
 use Rattle.capture.specs.declared.FileHeader.the-variants.{Ethernet}
 use Rattle.capture.specs.declared.RecordHeader.the-variants.{Cut as HeaderCut, Frame}
 use Rattle.capture.specs.Layout.{fileHeaderSize, recordHeaderSize, frameMost}
-use Rattle.capture.specs.Records.{fileHeaderOf, recordHeaderOf}
+use Rattle.capture.specs.Records.{Records, fileHeaderOf, recordHeaderOf, recordsFrom}
 use Rattle.capture.proofs.Headers.{record-header-says}
-use Rattle.capture_verdict.specs.Lines.{linesFrom}
-use Rattle.capture_verdict.proofs.Stepped.{by-record}
-use Rattle.judge_capture.specs.Window.{window, Grown, FrameShort, FrameGathers, CutThere, NextIs, CaptureThere}
+use Rattle.capture.proofs.Records.{records-say, cut-by-header, cut-by-frame}
+use Rattle.judge_capture.specs.Window.{window, Grown, FrameShort, FrameGathers, CutThere, NoneWhole, NextIs, CaptureThere}
 use Rattle.judge_capture.specs.declared.Next.{Next}
 use Rattle.judge_capture.specs.declared.Next.the-variants.{Record, AtEnd, Cut, Failed}
 use Rattle.judge_capture.proofs.Windows.{window-parts}
@@ -45,7 +44,17 @@ frame-short g h = record { read = g .read; short = omega (arith, grown-size g) }
 pub header-short : (order : Order) {old room : List ℕ} {left : ℕ} → Grown old room 0 left → left ≢ 0 → left < recordHeaderSize → CutThere order old
 header-short order {old} g p h =
     let l = grown-size g in
-    record { read = g .read; cut = λ b n. by-record .header-short order b n (old ++ g .read) (omega arith) (omega arith) }
+    record { read = g .read; cut = records-say .header-cut order (old ++ g .read) (omega arith) (omega arith) }
+
+-- no record fits into less than a header
+pub none-whole : (order : Order) (old : List ℕ) → length old < recordHeaderSize → NoneWhole order old
+none-whole order old h = record { read = []; none = by old h }
+  where
+    by : (s : List ℕ) → length s < recordHeaderSize → recordsFrom order (s ++ []) .whole ≡ []
+    by [] l = ap (λ (x : Records). x .whole) (records-say .at-end order)
+    by (x ∷ s) l =
+        let n = length-append (x ∷ s) [] in
+        ap (λ (x : Records). x .whole) (records-say .header-cut order ((x ∷ s) ++ []) (omega arith) (omega arith))
 
 -- a header between two offsets, at the front of the window
 module _ {old room : List ℕ} {at behind end : ℕ} (g : Grown old room at end) (o : at ≤ behind) (w : behind ≤ end) where
@@ -66,13 +75,15 @@ module _ {old room : List ℕ} {at behind end : ℕ} (g : Grown old room at end)
   bytes-more more = sym (append-assoc old (g .read) more) ∙ ap (λ (s : List ℕ). s ++ more) bytes ∙ append-assoc header rest more
 
   pub capture-there : {order : Order} → behind - at ≡ fileHeaderSize → fileHeaderOf header ≡ Ethernet order → CaptureThere room order behind end
-  capture-there z e = record { ordered = w; within = g .within; header = header; header-size = header-there ∙ z; header-says = e }
+  capture-there z e =
+      let n : behind - fileHeaderSize ≡ at = omega arith in
+      record { header-fits = omega arith; ordered = w; within = g .within; header-says = rw n e }
 
   module _ (order : Order) (z : behind - at ≡ recordHeaderSize) where
     pub header-cut : recordHeaderOf order header ≡ HeaderCut → CutThere order old
     header-cut e = record {
       read = g .read;
-      cut = λ b n. ap (linesFrom order b n) bytes ∙ by-record .header-cut order b n header rest (header-there ∙ z) e;
+      cut = ap (recordsFrom order) bytes ∙ cut-by-header order header rest (header-there ∙ z) e;
     }
 
     pub record-there : {captured original : ℕ} (after : List ℕ) → recordHeaderOf order header ≡ Frame captured original
@@ -90,8 +101,9 @@ module _ {old room : List ℕ} {at behind end : ℕ} (g : Grown old room at end)
     record-there after e AtEnd f = absurd f
     record-there {captured} {original} after e Cut f = record {
       read = g .read ++ f .read;
-      cut = λ b n.
-          ap (linesFrom order b n) (bytes-more (f .read))
-          ∙ by-record .frame-short order b n captured original header (rest ++ f .read) (header-there ∙ z) e (f .short);
+      cut = ap (recordsFrom order) (bytes-more (f .read)) ∙ cut-by-frame order header (rest ++ f .read) (header-there ∙ z) e (f .short);
     }
-    record-there after e Failed f = tt
+    record-there after e Failed f = record {
+      read = g .read;
+      none = ap (λ (x : Records). x .whole) (ap (recordsFrom order) bytes ∙ cut-by-frame order header rest (header-there ∙ z) e f);
+    }

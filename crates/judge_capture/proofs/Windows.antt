@@ -4,7 +4,7 @@ use mathlib.Core.Path.{_≡_, refl, sym, ap, _∙_}
 use mathlib.Core.List.{List, [], _++_, append-nil}
 use native.Mathlib.Omega.{arith}
 use lib.ListN.{length, take, drop, take-append-drop}
-use lib.Seq.{take-take, take-add, drop-drop}
+use lib.Seq.{length-take-le, take-take, take-add, drop-drop}
 use Rattle.file_verdict.specs.declared.Content.{Content}
 use Rattle.file_verdict.specs.declared.Content.the-variants.{Unreadable, Size}
 use Rattle.file_verdict.specs.declared.Progress.{Progress}
@@ -71,5 +71,8 @@ module _ {old : List ℕ} {have : ℕ} {room : List ℕ} {size : ℕ} (f : Filli
 
   pub filling-ended : (want : ℕ) (content : Content) {k : ℕ} {progress : Progress} → size < want → ReadMeans size k progress → progress ≡ Ended content
       → Gathers (take have old) want room (endedBy content)
-  filling-ended want Unreadable h m e = tt
+  filling-ended want Unreadable h m e =
+      let s = f .started in
+      let w = f .within in
+      omega (arith, length-take-le have old (omega arith))
   filling-ended want (Size n) h m e = let z = ended-at m e in rw z (filling-grown, h)

@@ -1,38 +1,36 @@
--- How far the judging of a recording is, in the words of capture_verdict: whatever the file has behind what was read, its lines are those so far and
--- then those of the bytes not looked at, by the book as it is.
-use Prim.Native.Nat.{ℕ, suc}
+-- How far the judging of a recording is: which records have been judged, what is left of the bytes that were read, and the received counters.
+use Prim.Native.Nat.{ℕ}
 use mathlib.Core.Path.{_≡_}
 use mathlib.Core.Logic.{_⊎_}
 use mathlib.Core.List.{List, _++_}
-use Rattle.key_book.specs.Book.{Book, bookOf}
+use mathlib.Core.Option.{some}
+use Rattle.key_book.specs.Book.{Book}
 use Rattle.capture.specs.declared.Order.{Order}
-use Rattle.capture_verdict.specs.Lines.{linesFrom, linesOf}
+use Rattle.capture.specs.Records.{Record, inFront, recordsFrom, recordsOf}
+use Rattle.capture_verdict.specs.Lines.{bookAtEnd}
 
--- a book with these received counters
-abbrev pub withReceived : Book → List ℕ → Book
-withReceived b received = bookOf (b .ids) (b .lengths) (b .store) received (b .sent) (b .rows)
-
--- From the first bytes behind the file's header: so many records have been judged, and these bytes are not looked at yet.
-pub record Judging (order : Order) (b : Book) (first received : List ℕ) (number : ℕ) (left : List ℕ) : Type 0 where
+-- From the first bytes behind the file's header: whatever the file has behind those that were read, its records are these and then those of the bytes
+-- that are left.
+pub record Judging (order : Order) (first : List ℕ) (records : List Record) (left : List ℕ) : Type 0 where
   pub read : List ℕ
-  pub lines : List (List ℕ)
-  pub goes-on : (rest : List ℕ) → linesFrom order b 1 (first ++ (read ++ rest)) ≡ lines ++ linesFrom order (withReceived b received) (suc number) (left ++ rest)
+  pub goes-on : (rest : List ℕ) → recordsFrom order (first ++ (read ++ rest)) ≡ inFront records (recordsFrom order (left ++ rest))
 
--- Where it ended, for whatever reason: the file's end, a cut, or a write that failed
+-- Where it ended, for whatever reason (the file's end, a cut, a read or a write that failed): the counters are those that these records leave.
 pub record Judged (order : Order) (b : Book) (first received : List ℕ) : Type 0 where
-  pub number : ℕ
+  pub records : List Record
   pub left : List ℕ
-  pub so-far : Judging order b first received number left
+  pub so-far : Judging order first records left
+  pub counters : received ≡ bookAtEnd b records .received
 
--- The whole recording: whatever it has behind the front that was read, its lines are those so far and then those of the bytes not looked at. Nothing is
--- judged of a recording that is unreadable.
+-- The same of the whole file, from its first byte.
 pub record Recorded (b : Book) (received : List ℕ) : Type 0 where
   pub front : List ℕ
-  pub lines : List (List ℕ)
   pub order : Order
-  pub number : ℕ
+  pub records : List Record
   pub left : List ℕ
-  pub goes-on : (rest : List ℕ) → linesOf b (front ++ rest) ≡ lines ++ linesFrom order (withReceived b received) (suc number) (left ++ rest)
+  pub so-far : (rest : List ℕ) → recordsOf (front ++ rest) ≡ some (inFront records (recordsFrom order (left ++ rest)))
+  pub counters : received ≡ bookAtEnd b records .received
 
+-- nothing is judged of a recording that is unreadable
 abbrev pub RecordingJudged : Book → List ℕ → Type 0
 RecordingJudged b received = (received ≡ b .received) ⊎ Recorded b received

@@ -9,9 +9,11 @@ ghost use lib.ListN.{length, take};
 ghost use Rattle.key_book.specs.Book.{bookOf};
 ghost use Rattle.verdict_line.specs.Line.{numberedMost, numberedLine, PutAt};
 ghost use Rattle.capture.specs.Layout.{fileHeaderSize, frameMost};
-ghost use Rattle.judge_capture.specs.Window.{window, endedBy, Gathers, FrameGathers, NextIs, isCut, RoomMade, OpensAs};
+ghost use Rattle.capture_verdict.specs.Lines.{recordLine, receivedBy};
+ghost use Rattle.judge_capture.specs.Window.{window, endedBy, Gathers, FrameGathers, NextIs, isCut, endLine, RoomMade, RoomFor, OpensAs};
 ghost use Rattle.judge_capture.specs.Judging.{Judged, RecordingJudged};
 use capture::FILE_HEADER_SIZE;
+use capture::FRAME_MOST;
 use capture::FileHeader;
 use capture::Order;
 use capture::RECORD_HEADER_SIZE;
@@ -26,8 +28,8 @@ use verdict_line::LINE_MOST;
 use verdict_line::Line;
 use verdict_line::NUMBERED_MOST;
 
-// The room for the window of the file, and the room for the lines.
-const ROOM: usize = 65536;
+// The room for the window of the file, which the largest frame fits, and the room for the lines.
+const ROOM: usize = FRAME_MOST + 1;
 
 // What was gathered of the file.
 enum Gathered {
@@ -41,7 +43,7 @@ enum Gathered {
 
 // The file's next record.
 enum Next {
-    // Its frame starts at the first offset and ends before the second, of so many bytes that it had; the window ends at the last number.
+    // Its frame is from the first offset to the second; then how many bytes the frame had, and where the window ends.
     Record(usize, usize, usize, usize),
     // There is none.
     AtEnd,
@@ -180,11 +182,50 @@ fn add_line(out: &mut [u8], size: usize, number: u64, line: Line) -> usize
     size + verdict_line::write_numbered(&mut out[size..], number, line)
 }
 
+// Judges a frame that had `original` bytes, and adds the line with this number behind those that wait. It returns where the line ends.
+fn judge_frame(
+    frame: &[u8],
+    original: usize,
+    number: u64,
+    out: &mut [u8],
+    size: usize,
+    ids: &[u32],
+    lengths: &[u8],
+    store: &[u8],
+    received: &mut [u64],
+    sent: &[u64],
+    rows: usize,
+) -> usize
+    requires { ⌜ size + numberedMost ≤ length (now out) ⌝ }
+    ensures line { λ r. ⌜
+        (let b = bookOf (now (ids .entry)) (now (lengths .entry)) (now (store .entry)) (now (received .entry)) (now (sent .entry)) rows in
+        PutAt (now (out .entry)) size (numberedLine number (recordLine b (now (frame .entry)) original)) (now (out .exit)) r)
+        ⌝ }
+    ensures within { λ r. ⌜ r ≤ length (now (out .exit)) ⌝ }
+    ensures stored { λ _. ⌜
+        (let b = bookOf (now (ids .entry)) (now (lengths .entry)) (now (store .entry)) (now (received .entry)) (now (sent .entry)) rows in
+        now (received .exit) ≡ receivedBy b (now (frame .entry)) original)
+        ⌝ }
+{
+    let line = capture_verdict::record_line(
+        frame,
+        original,
+        ids,
+        lengths,
+        store,
+        received,
+        sent,
+        rows,
+    );
+    add_line(out, size, number, line)
+}
+
 // Writes the lines that wait if there may be no room for one more.
 fn make_room(out: &[u8], size: usize) -> Waiting
     requires { ⌜ numberedMost ≤ length (now out) ⌝ }
     requires { ⌜ size ≤ length (now out) ⌝ }
-    ensures { λ r. ⌜ RoomMade (length (now (out .entry))) r ⌝ }
+    ensures left { λ r. ⌜ RoomMade size (length (now (out .entry))) r ⌝ }
+    ensures fits { λ r. ⌜ RoomFor (length (now (out .entry))) r ⌝ }
 {
     if size <= out.len() - NUMBERED_MOST {
         return Waiting::Size(size);
@@ -207,19 +248,20 @@ fn is_cut(next: Next) -> bool
     }
 }
 
-// Writes the lines that wait and, where the file is cut, the line that says so.
-fn finish(out: &mut [u8], size: usize, cut: bool)
-    requires { ⌜ size ≤ length (now out) ⌝ }
+// Adds the line `cut` behind those that wait, where this comes next and wants it, and returns where they end.
+fn add_end(out: &mut [u8], size: usize, next: Next) -> usize
+    requires { ⌜ size + numberedMost ≤ length (now out) ⌝ }
+    ensures { λ r. ⌜ PutAt (now (out .entry)) size (endLine next) (now (out .exit)) r ⌝ }
+    ensures { λ r. ⌜ r ≤ length (now (out .exit)) ⌝ }
 {
-    if !cut {
-        io::write_all(STDOUT_FILENO, &out[..size]);
-        return;
+    if is_cut(next) {
+        return size + verdict_line::write_line(&mut out[size..], Line::Cut);
     }
-    let end = size + verdict_line::write_line(&mut out[size..], Line::Cut);
-    io::write_all(STDOUT_FILENO, &out[..end]);
+    size
 }
 
-// Judges the records of a capture, of which the room holds the window behind the file's header. A write that fails ends it.
+// Judges the records of a capture, of which the room holds the window behind the file's header. A write that fails ends it, and so would record number
+// 2^64 - 1, which no file has.
 fn judge_records(
     fd: i32,
     order: Order,
@@ -249,13 +291,17 @@ fn judge_records(
     while number < u64::MAX {
         let next = next_record(fd, order, room, from, have);
         let Next::Record(at, end, original, until) = next else {
-            finish(&mut out, size, is_cut(next));
+            let last = add_end(&mut out, size, next);
+            io::write_all(STDOUT_FILENO, &out[..last]);
             return;
         };
         number += 1;
-        let line = capture_verdict::record_line(
+        let added = judge_frame(
             &room[at..end],
             original,
+            number,
+            &mut out,
+            size,
             ids,
             lengths,
             store,
@@ -263,7 +309,6 @@ fn judge_records(
             sent,
             rows,
         );
-        let added = add_line(&mut out, size, number, line);
         let waiting = make_room(&out, added);
         let Waiting::Size(left) = waiting else {
             return;
@@ -272,7 +317,7 @@ fn judge_records(
         from = end;
         have = until;
     }
-    finish(&mut out, size, false);
+    io::write_all(STDOUT_FILENO, &out[..size]);
 }
 
 // Looks at the header of an open file.

@@ -33,7 +33,7 @@ pub enum Line {
     Unreadable,
     // A recording's record carries nothing to judge.
     Skipped,
-    // A recording ends inside a record.
+    // A recording ends inside a record, a record is too large, or a read failed.
     Cut,
 }
 

@@ -12,6 +12,9 @@ add-t14 c =
     let g = rw (d .gathered2 .given .1) at (d .before .before .before .before .gather .ensures) in
     omega (arith, g .0 .ordered, g .0 .within, g .1)
 
+returns : tie.Need-returns
+returns c = rw (c .enum-told .given .1) at (c .before .before .before .before .gather .ensures)
+
 returns-2 : tie.Need-returns-2
 returns-2 c =
     let d = c .before in
@@ -36,7 +39,7 @@ gather-frame-spec =
     (λ c. search needs)
     add-t14
     (λ c. search needs)
-    (λ c. search needs)
+    returns
     (λ c. search needs)
     returns-2
     (λ c. search needs)

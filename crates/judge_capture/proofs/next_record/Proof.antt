@@ -1,7 +1,7 @@
 -- `judge_capture::next_record` meets its contract: the file has ended; or a header is taken, and then the frame of which it tells (proofs/Taken.antt).
 use mathlib.Core.Path.{sym, _∙_}
 use native.Mathlib.Omega.{arith}
-use Rattle.judge_capture.proofs.Taken.{at-end, captured-most, header-short, header-cut, record-there}
+use Rattle.judge_capture.proofs.Taken.{at-end, captured-most, none-whole, header-short, header-cut, record-there}
 use borrow.Author.Needs.{needs}
 use Rattle.judge_capture.proofs.next_record.Statement.{statement}
 use Rattle.judge_capture.proofs.next_record.Tie as tie
@@ -42,6 +42,9 @@ gather-frame-requires c κs =
     let n = g .1 in
     (omega arith, (omega arith, omega arith))
 
+returns-3 : tie.Need-returns-3
+returns-3 c = none-whole _ _ (rw (c .enum-told .given .1) at (c .before .before .before .before .gather .ensures))
+
 returns-4 : tie.Need-returns-4
 returns-4 c =
     let d = c .before .before in
@@ -80,7 +83,7 @@ next-record-spec =
     returns-2
     gather-frame-requires
     (λ c. search needs)
-    (λ c. search needs)
+    returns-3
     (λ c. search needs)
     returns-4
     (λ c. search needs)
