@@ -16,8 +16,11 @@ Contracts (src/**/*.rt)
    (`now (p .exit) ≡ ..`, perhaps as an argument of what builds a record of its arguments). Such an equation stands under no premise. Its right side
    names a definition of specs/ and, unless all is lent for writing, a parameter; it names neither the result nor anything `.exit`. Every word of it
    is known. Every clause names a definition of specs/; every parameter stands in an equation; no parameter hides a name. Behind `λ r.` no name
-   is bound but by a `let x = .. in` at the clause's front, and that name is nobody else's. The functions of READING are the only ones without such
-   equations, since what is read no contract can say: each of them still speaks of its result and of everything lent to it for writing.
+   is bound but by a `let x = .. in` at the clause's front, and that name is nobody else's.
+ - The functions of READING alone may lack such equations, since what is read no contract can say. In place of one, under no premise, a definition of
+   specs/ is applied to the result, or to what is behind a `&mut` afterwards, or to a term that holds it; or what is behind the `&mut` keeps its length
+   (`length (now (p .exit)) ≡ length (now (p .entry))`). Their clauses need not each name a definition of specs/, nor their equations every parameter.
+   Each is the only public function of its name in its crate, and not visible to C.
 Names (src/ and specs/)
  - The names of LIBRARY come from their library path alone, the names of LENT from nowhere; neither is given another meaning in specs/.
    Contracts take nothing else from a library, definitions no other operator; specs/ has no operator of its own.
@@ -300,13 +303,14 @@ def parts_of(words):
 
 @dataclass
 class Reading:
-    """An `ensures` taken apart: the name of the result, the words of what is said, with each `let` at its front put in, the names of these, and the
-    equations that stand under no premise."""
+    """An `ensures` taken apart: the name of the result, the words of what is said, with each `let` at its front put in, the names of these, and what
+    stands under no premise: the equations, and the other parts, which hold none."""
 
     result: str
     words: list
     lets: list
     equations: list
+    others: list
 
     @classmethod
     def of(cls, clause, known):
@@ -317,7 +321,8 @@ class Reading:
         said, lets = without_let(words[4:-1])
         plain = known | TIGHT | {words[1], "now", "(", ")", "≡"}
         sides = [split_words(part, ("≡",)) for part in parts_of(said) if all(word in plain or re.match(r"\.|\d", word) for word in part)]
-        return cls(words[1], said, lets, [pair for pair in sides if len(pair) == 2])
+        others = [canonical(part) for part, *more in sides if part and not more and "≡" not in part]
+        return cls(words[1], said, lets, [pair for pair in sides if len(pair) == 2], others)
 
 
 def contract_faults(crates, lists):
@@ -337,8 +342,9 @@ def contract_faults(crates, lists):
                         yield f"{place} {fault}"
     for crate_name, name in lists.reading:
         sources = crates[crate_name].src.values() if crate_name in crates else []
-        if not any(each.name == name and each.public and not each.owner for source in sources for each in source.functions):
-            yield f"{crate_name} has no public function `{name}`, which is listed as one that reads"
+        found = [each for source in sources for each in source.functions if each.name == name and each.public]
+        if len(found) != 1 or found[0].owner:
+            yield f"{crate_name} has {len(found)} public functions `{name}`, where one, in no `impl`, is listed as one that reads"
 
 
 def handed_on_faults(crates):
@@ -395,6 +401,8 @@ def public_faults(function, imported, structs, serving, reads):
         yield "has a `requires`"
     if function.for_c and serving:
         yield "is visible to C, in a crate that serves the others"
+    if function.for_c and reads:
+        yield "is visible to C, and listed as one that reads"
     if not function.all("ensures"):
         yield "has no `ensures`"
     for clause in function.clauses:
@@ -410,28 +418,37 @@ def public_faults(function, imported, structs, serving, reads):
     lets = {name for reading in readings for name in reading.lets}
     for name in ({*names} | results | lets) & {*imported, *LENT} | lets & {*LIBRARY} | (results | lets) & {*names} | results & lets:
         yield f"hides the name `{name}`"
-    if reads:
-        yield from unspoken(function, readings)
-        return
     equations = [
         (reading.result, left, right)
         for reading in readings
         for left, right in reading.equations
         if settles(reading, right, cited) and (not given or {*names} & {*right})
     ]
-    yield from unsettled(function, equations, imported, structs)
+    for name in unsettled(function, equations, imported, structs):
+        what = f"`{name}` afterwards" if name else "its result"
+        if not reads:
+            yield f"has no equation that fixes {what}"
+        elif not any(bounds(reading, name, cited) or keeps_length(reading, name) for reading in readings):
+            yield f"reads, and no equation and no definition of specs/ speaks of {what} under no premise"
     for name in names:
-        if not any(name in left + right for _, left, right in equations):
+        if not reads and not any(name in left + right for _, left, right in equations):
             yield f"says nothing of its parameter `{name}`"
 
 
-def unspoken(function, readings):
-    """What no clause of a function that reads speaks of: its result, or what is behind a `&mut` afterwards."""
-    if function.result not in ("", "()") and not any(reading.result in reading.words for reading in readings):
-        yield "reads, and says nothing of its result"
-    for parameter in function.parameters:
-        if parameter.lent_mutably and not any(holds_words(reading.words, [parameter.name, ".exit"]) for reading in readings):
-            yield f"reads, and says nothing of `{parameter.name}` afterwards"
+def bounds(reading, name, cited):
+    """A definition of specs/ is applied, under no premise, to what is behind this `&mut` afterwards, or to the result, or to a term that holds it."""
+    wanted = afterwards(name) if name else [reading.result]
+    return any(part[0] in cited and any(holds_words(each, wanted) for each in arguments(part)) for part in reading.others)
+
+
+def keeps_length(reading, name):
+    """An equation says that what is behind this `&mut` is as long afterwards as before."""
+    lengths = [["length", "(", "now", "(", name, when, ")", ")"] for when in (".exit", ".entry")]
+    return any([canonical(left), canonical(right)] == lengths for left, right in reading.equations)
+
+
+def afterwards(name):
+    return ["now", "(", name, ".exit", ")"]
 
 
 def holds_words(words, wanted):
@@ -445,15 +462,15 @@ def settles(reading, right, cited):
 
 
 def unsettled(function, equations, imported, structs):
-    """What no equation fixes: the result, or what is behind a `&mut` afterwards."""
+    """What no equation fixes: the result, which is "" here, or what is behind a `&mut` afterwards, by its name."""
     observed = [(result, canonical(left)) for result, left, _ in equations]
     if function.result not in ("", "()") and not result_fixed(function.result, observed, structs):
-        yield "has no equation that fixes its result"
+        yield ""
     for parameter in function.parameters:
         if parameter.lent_mutably:
-            after = ["now", "(", parameter.name, ".exit", ")"]
+            after = afterwards(parameter.name)
             if not any(left == after or holds(left, after, imported) for _, left in observed):
-                yield f"has no equation that fixes `{parameter.name}` afterwards"
+                yield parameter.name
 
 
 def result_fixed(kind, observed, structs):
