@@ -48,7 +48,7 @@ header-short order {old} g p h =
 
 -- no record fits into less than a header
 pub none-whole : (order : Order) (old : List ℕ) → length old < recordHeaderSize → NoneWhole order old
-none-whole order old h = record { read = []; none = by old h }
+none-whole order old h = record { read = []; whole-none = by old h }
   where
     by : (s : List ℕ) → length s < recordHeaderSize → recordsFrom order (s ++ []) .whole ≡ []
     by [] l = ap (λ (x : Records). x .whole) (records-say .at-end order)
@@ -105,5 +105,5 @@ module _ {old room : List ℕ} {at behind end : ℕ} (g : Grown old room at end)
     }
     record-there after e Failed f = record {
       read = g .read;
-      none = ap (λ (x : Records). x .whole) (ap (recordsFrom order) bytes ∙ cut-by-frame order header rest (header-there ∙ z) e f);
+      whole-none = ap (λ (x : Records). x .whole) (ap (recordsFrom order) bytes ∙ cut-by-frame order header rest (header-there ∙ z) e f);
     }

@@ -83,7 +83,7 @@ pub record CutThere (order : Order) (old : List ℕ) : Type 0 where
 -- they have no whole record
 pub record NoneWhole (order : Order) (old : List ℕ) : Type 0 where
   pub read : List ℕ
-  pub none : recordsFrom order (old ++ read) .whole ≡ []
+  pub whole-none : recordsFrom order (old ++ read) .whole ≡ []
 
 abbrev pub NextIs : Order → List ℕ → List ℕ → Next → Type 0
 NextIs order old room (Record at end original have) = RecordThere order old room at end original have

@@ -9,7 +9,9 @@ use Rattle.judge_capture.proofs.make_room.Statement.{statement}
 use Rattle.judge_capture.proofs.make_room.Tie as tie
 
 returns : tie.Need-returns
-returns c = (room-kept _ _ (omega arith), search needs)
+returns c =
+    let a = c .before .before .args in
+    (room-kept (a .size) (length (a .out .now)) (omega arith), search needs)
 
 slice-aggregate-write-all : tie.Need-slice-aggregate-write-all
 slice-aggregate-write-all c = sym (length-take-le _ _ (omega arith))
