@@ -5,8 +5,8 @@
  * ever.
  */
 #define _GNU_SOURCE
+#include "limit.h"
 #include <errno.h>
-#include <stdint.h>
 #include <stdio.h>
 #include <stdlib.h>
 #include <string.h>
@@ -29,18 +29,6 @@ static int is_named(int fd)
     path[size] = '\0';
     last = strrchr(path, '/');
     return last != NULL && strcmp(last + 1, name) == 0;
-}
-
-static size_t limit(const char *variable)
-{
-    const char *number = getenv(variable);
-
-    return number == NULL ? SIZE_MAX : (size_t)strtoull(number, NULL, 10);
-}
-
-static size_t lower(size_t a, size_t b)
-{
-    return a < b ? a : b;
 }
 
 ssize_t read(int fd, void *bytes, size_t room)

@@ -3,11 +3,12 @@
 //! them as they were.
 
 use crate::outside::{repository_file, run, run_well, Folder};
-use std::fs;
-use std::io::Write;
+use std::fs::{self, File};
+use std::io::{ErrorKind, Write};
 use std::os::unix::fs::symlink;
 use std::path::{Path, PathBuf};
 use std::process::Command;
+use std::sync::mpsc::{self, Receiver};
 use std::thread;
 use std::time::{Duration, SystemTime};
 
@@ -79,6 +80,27 @@ pub fn pipe(folder: &Folder, name: &str) -> PathBuf {
     path
 }
 
+/// Waits until a pipe is opened for reading, and opens it for writing.
+fn writing_end(pipe: &Path) -> File {
+    let end = File::options().write(true).open(pipe);
+    end.expect("a pipe can be opened")
+}
+
+/// Feeds a pipe with pieces, of which there is no end, until a write fails, and then says how.
+pub fn fed(
+    pipe: PathBuf,
+    mut pieces: impl Iterator<Item = Vec<u8>> + Send + 'static,
+) -> Receiver<Option<ErrorKind>> {
+    let (say, said) = mpsc::channel();
+    thread::spawn(move || {
+        let mut end = writing_end(&pipe);
+        let failed = pieces.find_map(|piece| end.write_all(&piece).err());
+        // A test that has failed no longer asks.
+        let _ = say.send(failed.map(|error| error.kind()));
+    });
+    said
+}
+
 /// What a program writes in a folder in which a pipe, which gives its bytes a piece to a read,
 /// stands in place of a file.
 pub fn judged_in_pieces(program: &Path, folder: &Folder, name: &str, pieces: &[&[u8]]) -> String {
@@ -87,8 +109,7 @@ pub fn judged_in_pieces(program: &Path, folder: &Folder, name: &str, pieces: &[&
     let pipe = pipe(folder, name);
     thread::scope(|scope| {
         scope.spawn(|| {
-            let mut end = fs::OpenOptions::new().write(true).open(&pipe);
-            let end = end.as_mut().expect("a pipe can be opened");
+            let mut end = writing_end(&pipe);
             for piece in pieces {
                 end.write_all(piece).expect("the program reads the pipe");
                 thread::sleep(Duration::from_millis(pause));
@@ -98,8 +119,8 @@ pub fn judged_in_pieces(program: &Path, folder: &Folder, name: &str, pieces: &[&
     })
 }
 
-/// A disk that is slow or breaks, and a reader that is slow. It takes a program that calls the C
-/// library's `read` and `write`.
+/// A disk that is slow, breaks or fills, and a reader that is slow. It takes a program that calls
+/// the C library's `read` and `write`.
 pub struct Disk {
     built: Folder,
 }
@@ -150,6 +171,13 @@ impl Disk {
     pub fn taking(&self, program: &Path, piece: usize) -> Command {
         let mut command = self.before(program, "short_write");
         command.env("SHORT_WRITE", piece.to_string());
+        command
+    }
+
+    /// The program, whose writes fail behind so many bytes.
+    pub fn filling(&self, program: &Path, behind: usize) -> Command {
+        let mut command = self.before(program, "short_write");
+        command.env("SHORT_WRITE_BEHIND", behind.to_string());
         command
     }
 }

@@ -8,6 +8,7 @@ use crate::outside::{judge_capture, Folder};
 use crate::programs::{judged_by, put, At, CARD};
 use reference::capture::Order;
 use reference::examples::CARD_B;
+use std::iter;
 use std::process::Command;
 
 /// The capture's name.
@@ -63,13 +64,15 @@ pub fn right_frames() -> impl Iterator<Item = Draft> {
     (11..).map(|counter| Draft::around(&messages::signed(&[1, 2, 3, 4], 7, counter)))
 }
 
+/// The capture of all of these frames, which has no end: its header, and then a record to a piece.
+pub fn endless_capture(order: Order) -> impl Iterator<Item = Vec<u8>> {
+    let records = right_frames().map(move |draft| Record::of(draft.bytes()).bytes(order));
+    iter::once(of_records(order, &[])).chain(records)
+}
+
 /// The capture of some of these frames.
 pub fn right_capture(order: Order, count: usize) -> Vec<u8> {
-    let records: Vec<Record> = right_frames()
-        .take(count)
-        .map(|draft| Record::of(draft.bytes()))
-        .collect();
-    of_records(order, &records)
+    endless_capture(order).take(1 + count).flatten().collect()
 }
 
 /// What a line says, without the record's number, the row and the counter.

@@ -125,8 +125,7 @@ fn the_card_is_judged_first() {
     for message in messages {
         assert_eq!(judged(At::File(&longer), message), "refused 15\n");
     }
-    let rows_65: Vec<Row> = (0..65).map(|id| Row::new(id, &[1])).collect();
-    let line = judged_files(&card_of_rows(&rows_65), &accepted_by_b());
+    let line = judged_files(&cards::of_65_rows(), &accepted_by_b());
     assert_eq!(line, "refused 15\n");
 }
 

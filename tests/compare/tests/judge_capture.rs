@@ -8,22 +8,27 @@ use compare::generate::frames::Draft;
 use compare::generate::{books, captures, cards, frames, messages};
 use compare::harness::{cases, for_each_case, on_bytes, Difference, Tally};
 use compare::outside::{ended_within, judge_capture, repository_file, run_within, started, Folder};
-use compare::programs::{contents, judged_by, judged_in_pieces, pipe, At, Disk, CARD};
+use compare::programs::{contents, fed, judged_by, judged_in_pieces, pipe, At, Disk, CARD};
 use compare::random::Random;
 use compare::recordings::{
-    agreed, both, both_by, folder_with, judged, kind, right_capture, right_frames, same_lines,
-    ACCEPTED, CAPTURE,
+    agreed, both, both_by, endless_capture, folder_with, judged, kind, right_capture, right_frames,
+    same_lines, ACCEPTED, CAPTURE,
 };
-use reference::capture::{judged_where_a_read_fails, Order, FRAME_MOST};
+use reference::capture::{judged_where_a_read_fails, Order, FRAME_MOST, MAGIC};
 use reference::card::{card_of_rows, rows_of_book, Row};
 use reference::examples::{frame_of_b, recordings_of_b, refused_by_b, CARD_B, CARD_EMPTY};
 use std::fs::{self, File};
-use std::io::Read;
-use std::process::{Command, Stdio};
+use std::io::{ErrorKind, Read};
+use std::os::unix::process::ExitStatusExt;
+use std::process::{Command, ExitStatus, Stdio};
+use std::thread;
 use std::time::Duration;
 
 /// Far more time than the program needs.
 const LIMIT: Duration = Duration::from_secs(30);
+
+/// The signal that tells a writer that its reader is gone.
+const SIGPIPE: i32 = 13;
 
 /// Book B's recording. Judged again it is accepted again, since nothing is written back; recorded
 /// twice it is a replay.
@@ -66,25 +71,36 @@ fn refused_bench_examples() {
     }
 }
 
-/// Random captures get the lines that the second implementation gives, and each kind of line comes
-/// up often.
+/// Random captures get the lines that the second implementation gives, and each kind of line and
+/// both orders of bytes come up often.
 #[test]
 fn as_the_second_implementation_judges() {
     let captures = (cases() / 25).max(3_000);
     let mut tally = Tally::new("judge_capture, lines");
+    let mut orders = Tally::new("judge_capture, orders");
     for_each_case("judge_capture", captures, |random| {
         let (card, capture) = card_and_capture(random);
         let text = on_bytes(both(&card, &capture), "capture", &capture);
         for line in on_bytes(text, "card", &card)?.lines() {
             tally.count(kind(line));
         }
+        orders.count(order_of(&capture));
         Ok(())
     });
+    orders.print();
+    orders.require_often(&Order::BOTH.map(|order| format!("{order:?}")), captures / 3);
     tally.print();
     tally.require_often(&["accepted", "skipped"].map(String::from), captures);
     tally.require_often(&["cut", "unreadable"].map(String::from), captures / 20);
     let refusals: Vec<String> = (2..=12).map(|number| format!("refused {number}")).collect();
     tally.require_often(&refusals, captures / 40);
+}
+
+/// The order of a capture's bytes, by its first word.
+fn order_of(capture: &[u8]) -> String {
+    let has_magic = |order: &Order| capture.starts_with(&order.bytes(MAGIC));
+    let order = Order::BOTH.into_iter().find(has_magic);
+    order.map_or("neither".to_string(), |order| format!("{order:?}"))
 }
 
 /// A sound book's card and a capture for it; one card in twenty is any card.
@@ -216,6 +232,7 @@ fn captures_without_a_record() {
 fn unreadable_card() {
     let [capture, _] = recordings_of_b();
     let longer = [&CARD_B[..], &[0]].concat();
+    let rows_65 = cards::of_65_rows();
     let (largest, above) = (vec![0; 65_535], vec![0; 65_536]);
     let cards = [
         At::Nothing,
@@ -224,6 +241,7 @@ fn unreadable_card() {
         At::File(&[]),
         At::File(&longer),
         At::Link(&longer),
+        At::File(&rows_65),
         At::File(&largest),
         At::File(&above),
     ];
@@ -320,12 +338,17 @@ fn a_read_of_the_capture_that_fails() {
     }
 }
 
+/// A folder with book B's recording.
+fn folder_of_b() -> Folder {
+    let [capture, _] = recordings_of_b();
+    folder_with(At::File(&CARD_B), At::File(&capture))
+}
+
 /// A read that fails makes the card unreadable, though the bytes read before are the whole of it.
 #[test]
 fn a_read_of_the_card_that_fails() {
     let disk = Disk::new();
-    let [capture, _] = recordings_of_b();
-    let folder = folder_with(At::File(&CARD_B), At::File(&capture));
+    let folder = folder_of_b();
     let judged_failing = |name: &str, behind: usize| {
         judged_by(&mut disk.failing(&judge_capture(), name, behind), &folder)
     };
@@ -335,13 +358,15 @@ fn a_read_of_the_card_that_fails() {
     }
 }
 
-/// Reads that give few bytes are followed by others, which go on where they stopped.
+/// Reads that give few bytes are followed by others, which go on where they stopped. One that gives
+/// none is the file's end.
 #[test]
 fn reads_that_give_few_bytes() {
     let disk = Disk::new();
+    let slow = |piece: usize| disk.slow(&judge_capture(), CAPTURE, piece);
+    assert_eq!(judged_by(&mut slow(0), &folder_of_b()), "unreadable\n");
     let read_in = |capture: &[u8], piece: usize| {
-        let mut command = disk.slow(&judge_capture(), CAPTURE, piece);
-        let text = both_by(&mut command, &CARD_B, capture);
+        let text = both_by(&mut slow(piece), &CARD_B, capture);
         text.unwrap_or_else(|difference| panic!("{piece} bytes to a read: {difference}"));
     };
     let mut frame = frame_of_b();
@@ -415,15 +440,42 @@ fn a_card_in_pieces() {
     assert_eq!(text, ACCEPTED);
 }
 
-/// Writes that take few bytes are followed by others, which go on where they stopped.
+/// Writes that take few bytes are followed by others, which go on where they stopped. One that takes
+/// none is the last.
 #[test]
 fn writes_that_take_few_bytes() {
     let disk = Disk::new();
+    let taking = |piece: usize| disk.taking(&judge_capture(), piece);
+    let folder = folder_of_b();
+    let text = run_within(LIMIT, taking(0).current_dir(folder.path()));
+    assert_eq!(text, "");
     for (count, piece) in [(300, 1), (300, 7), (6_000, 4_096), (6_000, 65_535)] {
         let capture = right_capture(Order::Little, count);
-        let mut command = disk.taking(&judge_capture(), piece);
-        let text = both_by(&mut command, &CARD_B, &capture);
+        let text = both_by(&mut taking(piece), &CARD_B, &capture);
         text.unwrap_or_else(|difference| panic!("{piece} bytes to a write: {difference}"));
+    }
+}
+
+/// A folder with right records, whose lines are more than two writes take and a pipe has room for,
+/// and these lines.
+fn many_right_records() -> (Folder, String) {
+    let capture = right_capture(Order::Little, 6_000);
+    let folder = folder_with(At::File(&CARD_B), At::File(&capture));
+    let lines = reference::capture::judged(Some(&CARD_B), Some(&capture));
+    (folder, lines)
+}
+
+/// A disk that fills behind some bytes has taken the front of the lines, and the program ends well.
+#[test]
+fn a_disk_that_fills() {
+    let disk = Disk::new();
+    let (folder, lines) = many_right_records();
+    let (first, all) = (ACCEPTED.len(), lines.len());
+    let in_lines = [0, 1, first, first + 10, 65_535, 65_536, 65_537, 131_072];
+    for behind in in_lines.into_iter().chain([all - 1, all]) {
+        let text = judged_by(&mut disk.filling(&judge_capture(), behind), &folder);
+        let same = same_lines(&lines[..behind], &text);
+        same.unwrap_or_else(|difference| panic!("behind {behind} bytes: {difference}"));
     }
 }
 
@@ -434,33 +486,57 @@ fn by_shell(script: &str) -> Command {
     command
 }
 
-/// Runs a program that has more lines to write than a pipe has room for. So many bytes of them are
-/// read and no more. The program must end, and leave both files as they were.
-fn ends_unread(mut command: Command, output: Stdio, read: usize) {
-    let capture = right_capture(Order::Little, 6_000);
-    let folder = folder_with(At::File(&CARD_B), At::File(&capture));
-    let before = contents(&folder);
-    let mut child = started(command.current_dir(folder.path()).stdout(output));
-    if let Some(mut reader) = child.stdout.take() {
-        let mut bytes = vec![0; read];
-        reader.read_exact(&mut bytes).expect("there are lines");
-        assert!(ACCEPTED.as_bytes().starts_with(&bytes[..read.min(10)]));
-    }
-    ended_within(LIMIT, &command, &mut child);
-    assert!(contents(&folder) == before, "{command:?} changed a file");
+/// Reads as many bytes as these, which they must be, and goes.
+fn reads_alone(front: &str, output: impl Read) {
+    let mut text = String::new();
+    let read = output.take(front.len() as u64).read_to_string(&mut text);
+    read.expect("a program writes text");
+    same_lines(front, &text).unwrap_or_else(|difference| panic!("{difference}"));
 }
 
-/// Where its lines can't be written the program ends: the reader is gone, with the signal that tells
-/// so and without it, the disk is full, or there is no standard output.
+/// Runs a program of whose lines only the front is read. It must end, and in this way.
+fn ends_in(folder: &Folder, command: &mut Command, front: &str, end: ExitStatus) {
+    let mut child = started(command.current_dir(folder.path()));
+    let status = thread::scope(|scope| {
+        if let Some(output) = child.stdout.take() {
+            scope.spawn(|| reads_alone(front, output));
+        }
+        ended_within(LIMIT, command, &mut child)
+    });
+    assert_eq!(status, end, "{command:?}");
+}
+
+/// Runs a program on many records in a file, which it must leave as it was, and on records without
+/// end. So many bytes of its lines are read and no more.
+fn ends_unread(mut command: Command, output: Stdio, read: usize, end: ExitStatus) {
+    command.stdout(output);
+    let (folder, lines) = many_right_records();
+    let before = contents(&folder);
+    ends_in(&folder, &mut command, &lines[..read], end);
+    assert!(contents(&folder) == before, "{command:?} changed a file");
+
+    let endless = folder_with(At::File(&CARD_B), At::Nothing);
+    let failed = fed(pipe(&endless, CAPTURE), endless_capture(Order::Little));
+    ends_in(&endless, &mut command, &lines[..read], end);
+    let broken = Ok(Some(ErrorKind::BrokenPipe));
+    assert_eq!(failed.recv_timeout(LIMIT), broken, "{command:?}");
+}
+
+/// Where its lines can't be written the program ends, though its records don't: the reader is gone,
+/// with the signal that tells so and without it, the disk is full or fills, or there is no standard
+/// output.
 #[test]
 fn an_output_that_takes_nothing() {
+    let (well, by_signal) = (ExitStatus::default(), ExitStatus::from_raw(SIGPIPE));
+    let (program, disk) = (judge_capture(), Disk::new());
     for read in [0, 1, 70_000] {
-        ends_unread(Command::new(judge_capture()), Stdio::piped(), read);
+        ends_unread(Command::new(&program), Stdio::piped(), read, by_signal);
         let ignoring = by_shell("trap '' PIPE; exec \"$1\"");
-        ends_unread(ignoring, Stdio::piped(), read);
+        ends_unread(ignoring, Stdio::piped(), read, well);
+        ends_unread(disk.filling(&program, read), Stdio::piped(), read, well);
     }
     let full = File::options().write(true).open("/dev/full");
     let full = full.expect("there is a full disk");
-    ends_unread(Command::new(judge_capture()), full.into(), 0);
-    ends_unread(by_shell("exec \"$1\" >&-"), Stdio::null(), 0);
+    ends_unread(Command::new(&program), full.into(), 0, well);
+    ends_unread(by_shell("exec \"$1\" >&-"), Stdio::null(), 0, well);
 }
