@@ -17,6 +17,10 @@ Contracts (src/**/*.rt)
    names a definition of specs/ and, unless all is lent for writing, a parameter; it names neither the result nor anything `.exit`. Every word of it
    is known. Every clause names a definition of specs/; every parameter stands in an equation; no parameter hides a name. Behind `λ r.` no name
    is bound but by a `let x = .. in` at the clause's front, and that name is nobody else's.
+ - The functions of READING alone may lack such equations, since what is read no contract can say. In place of one, under no premise, a definition of
+   specs/ is applied to the result, or to what is behind a `&mut` afterwards, or to a term that holds it; or what is behind the `&mut` keeps its length
+   (`length (now (p .exit)) ≡ length (now (p .entry))`). Their clauses need not each name a definition of specs/, nor their equations every parameter.
+   Each is the only public function of its name in its crate, and not visible to C.
 Names (src/ and specs/)
  - The names of LIBRARY come from their library path alone, the names of LENT from nowhere; neither is given another meaning in specs/.
    Contracts take nothing else from a library, definitions no other operator; specs/ has no operator of its own.
@@ -91,6 +95,16 @@ THEOREMS = [
     ("file_verdict", "Says", "content-says", "ContentSays"),
     ("file_verdict", "Says", "line-says", "LineSays"),
     ("file_verdict", "Computed", "example-9", "Example9"),
+    ("capture", "Headers", "header-says", "HeaderSays"),
+    ("capture", "Headers", "record-header-says", "RecordHeaderSays"),
+    ("capture", "Records", "records-say", "RecordsSay"),
+    ("capture", "Payloads", "payload-says", "PayloadSays"),
+    ("capture", "Computed", "capture-examples", "CaptureExamples"),
+    ("capture_verdict", "Answered", "verdicts-are-answers", "VerdictsAreAnswers"),
+    ("capture_verdict", "Stepped", "by-record", "ByRecord"),
+    ("capture_verdict", "Says", "failure-says", "FailureSays"),
+    ("capture_verdict", "Says", "lines-say", "LinesSay"),
+    ("capture_verdict", "Computed", "recording-example", "RecordingExample"),
     ("demands", "Demand1", "demand-1", "Demand1"),
     ("demands", "Demand2", "demand-2", "Demand2"),
     ("demands", "Demand3", "demand-3", "Demand3"),
@@ -110,10 +124,19 @@ DATA = [
     ("key_book", "Book"),
     ("book_card", "Row"),
     ("book_card", "FrontRows"),
+    ("capture", "Record"),
+    ("capture", "Records"),
 ]
 
 # Crates whose functions serve the other crates and are no entries: they may ask something of their callers, since every caller is proved to give it.
 SERVING = ("octets",)
+
+# crate and name of the public functions whose answer depends on what is read from a file. No other may lack an equation.
+READING = [
+    ("program_files", "read_more"),
+    ("program_files", "read_file"),
+    ("program_files", "load_book"),
+]
 
 # Proof files of examples and of the RFCs' vectors: everything that they prove is a listed statement.
 VECTOR_FILES = ("Vectors", "Computed", "Examples")
@@ -154,6 +177,7 @@ class Lists:
 
     theorems: list = field(default_factory=lambda: THEOREMS)
     data: list = field(default_factory=lambda: DATA)
+    reading: list = field(default_factory=lambda: READING)
 
 
 class Crate:
@@ -279,13 +303,14 @@ def parts_of(words):
 
 @dataclass
 class Reading:
-    """An `ensures` taken apart: the name of the result, the words of what is said, with each `let` at its front put in, the names of these, and the
-    equations that stand under no premise."""
+    """An `ensures` taken apart: the name of the result, the words of what is said, with each `let` at its front put in, the names of these, and what
+    stands under no premise: the equations, and the other parts, which hold none."""
 
     result: str
     words: list
     lets: list
     equations: list
+    others: list
 
     @classmethod
     def of(cls, clause, known):
@@ -296,10 +321,11 @@ class Reading:
         said, lets = without_let(words[4:-1])
         plain = known | TIGHT | {words[1], "now", "(", ")", "≡"}
         sides = [split_words(part, ("≡",)) for part in parts_of(said) if all(word in plain or re.match(r"\.|\d", word) for word in part)]
-        return cls(words[1], said, lets, [pair for pair in sides if len(pair) == 2])
+        others = [canonical(part) for part, *more in sides if part and not more and "≡" not in part]
+        return cls(words[1], said, lets, [pair for pair in sides if len(pair) == 2], others)
 
 
-def contract_faults(crates):
+def contract_faults(crates, lists):
     for crate in crates.values():
         for path, source in crate.src.items():
             imported = imports(crate, crates, source)
@@ -311,8 +337,14 @@ def contract_faults(crates):
                     for fault in clause_faults(clause, {*imported}):
                         yield f"{place}, line {clause.line}: {fault}"
                 if function.public and path != "src/main.rt":
-                    for fault in public_faults(function, imported, source.structs, crate.name in SERVING):
+                    reads = (crate.name, function.name) in lists.reading and not function.owner
+                    for fault in public_faults(function, imported, source.structs, crate.name in SERVING, reads):
                         yield f"{place} {fault}"
+    for crate_name, name in lists.reading:
+        sources = crates[crate_name].src.values() if crate_name in crates else []
+        found = [each for source in sources for each in source.functions if each.name == name and each.public]
+        if len(found) != 1 or found[0].owner:
+            yield f"{crate_name} has {len(found)} public functions `{name}`, where one, in no `impl`, is listed as one that reads"
 
 
 def handed_on_faults(crates):
@@ -361,7 +393,7 @@ def imports(crate, crates, source):
     return found
 
 
-def public_faults(function, imported, structs, serving):
+def public_faults(function, imported, structs, serving, reads):
     cited = {name for name, source in imported.items() if source}
     names = [parameter.name for parameter in function.parameters]
     given = {parameter.name for parameter in function.parameters if not parameter.lent_mutably}
@@ -369,6 +401,8 @@ def public_faults(function, imported, structs, serving):
         yield "has a `requires`"
     if function.for_c and serving:
         yield "is visible to C, in a crate that serves the others"
+    if function.for_c and reads:
+        yield "is visible to C, and listed as one that reads"
     if not function.all("ensures"):
         yield "has no `ensures`"
     for clause in function.clauses:
@@ -376,7 +410,7 @@ def public_faults(function, imported, structs, serving):
             yield f"has a clause `{clause.kind}`"
     readings = [reading for clause in function.all("ensures") if (reading := Reading.of(clause, {*imported, *names}))]
     for reading in readings:
-        if not cited & set(reading.words):
+        if not reads and not cited & set(reading.words):
             yield f"has an `ensures` that names no definition of specs/: `{' '.join(reading.words)}`"
         for word in sorted({*BINDERS} & {*reading.words}):
             yield f"has an `ensures` that binds a name by `{word}`, which may hide the result or a parameter"
@@ -390,10 +424,36 @@ def public_faults(function, imported, structs, serving):
         for left, right in reading.equations
         if settles(reading, right, cited) and (not given or {*names} & {*right})
     ]
-    yield from unsettled(function, equations, imported, structs)
+    for name in unsettled(function, equations, imported, structs):
+        what = f"`{name}` afterwards" if name else "its result"
+        if not reads:
+            yield f"has no equation that fixes {what}"
+        elif not any(bounds(reading, name, cited) or keeps_length(reading, name) for reading in readings):
+            yield f"reads, and no equation and no definition of specs/ speaks of {what} under no premise"
     for name in names:
-        if not any(name in left + right for _, left, right in equations):
+        if not reads and not any(name in left + right for _, left, right in equations):
             yield f"says nothing of its parameter `{name}`"
+
+
+def bounds(reading, name, cited):
+    """A definition of specs/ is applied, under no premise, to what is behind this `&mut` afterwards, or to the result, or to a term that holds it."""
+    wanted = afterwards(name) if name else [reading.result]
+    return any(part[0] in cited and any(holds_words(each, wanted) for each in arguments(part)) for part in reading.others)
+
+
+def keeps_length(reading, name):
+    """An equation says that what is behind this `&mut` is as long afterwards as before."""
+    lengths = [["length", "(", "now", "(", name, when, ")", ")"] for when in (".exit", ".entry")]
+    return any([canonical(left), canonical(right)] == lengths for left, right in reading.equations)
+
+
+def afterwards(name):
+    return ["now", "(", name, ".exit", ")"]
+
+
+def holds_words(words, wanted):
+    """These words stand in it, one behind another."""
+    return any(words[place : place + len(wanted)] == wanted for place in range(len(words)))
 
 
 def settles(reading, right, cited):
@@ -402,15 +462,15 @@ def settles(reading, right, cited):
 
 
 def unsettled(function, equations, imported, structs):
-    """What no equation fixes: the result, or what is behind a `&mut` afterwards."""
+    """What no equation fixes: the result, which is "" here, or what is behind a `&mut` afterwards, by its name."""
     observed = [(result, canonical(left)) for result, left, _ in equations]
     if function.result not in ("", "()") and not result_fixed(function.result, observed, structs):
-        yield "has no equation that fixes its result"
+        yield ""
     for parameter in function.parameters:
         if parameter.lent_mutably:
-            after = ["now", "(", parameter.name, ".exit", ")"]
+            after = afterwards(parameter.name)
             if not any(left == after or holds(left, after, imported) for _, left in observed):
-                yield f"has no equation that fixes `{parameter.name}` afterwards"
+                yield parameter.name
 
 
 def result_fixed(kind, observed, structs):
@@ -707,7 +767,7 @@ def one_edit_faults(crate, edit):
 
 def all_faults(root, lists):
     crates = crates_of(root)
-    yield from contract_faults(crates)
+    yield from contract_faults(crates, lists)
     yield from handed_on_faults(crates)
     yield from name_faults(crates)
     yield from text_faults(crates)

@@ -104,6 +104,28 @@ pub fn scale(x: u8) -> u8
     x
 }
 """,
+    "crates/reader/src/lib.rt": """\
+// What is read no contract can say: one function, which is listed.
+ghost use mathlib.Core.Path.{_≡_};
+ghost use Prim.Native.Nat.{_≤_};
+ghost use lib.ListN.{length};
+ghost use Rattle.reader.specs.Bounds.{Within};
+
+pub fn fetch(fd: i32, room: &mut [u8]) -> usize
+    ensures within { λ r. ⌜ Within (length (now (room .entry))) r ⌝ }
+    ensures long { λ _. ⌜ length (now (room .exit)) ≡ length (now (room .entry)) ⌝ }
+{
+    least(libc::read(fd, room), room.len())
+}
+""",
+    "crates/reader/specs/Lib.antt": "pub mod Bounds\n",
+    "crates/reader/specs/Bounds.antt": """\
+-- What an answer lies within.
+use Prim.Native.Nat.{ℕ, _≤_}
+
+abbrev pub Within : ℕ → ℕ → Type 0
+Within most n = n ≤ most
+""",
     "crates/octets/src/lib.rt": """\
 // What serves the others may ask something of them.
 ghost use mathlib.Core.Path.{_≡_};
@@ -292,4 +314,4 @@ THEOREMS = [
     ("meter", "Vectors", "example-1", "Example1"),
 ]
 
-LISTS = {"theorems": THEOREMS, "data": [("meter", "Pair")]}
+LISTS = {"theorems": THEOREMS, "data": [("meter", "Pair")], "reading": [("reader", "fetch")]}

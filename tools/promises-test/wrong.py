@@ -7,6 +7,7 @@ from rattle_text import antt_tokens as tokens
 LIB = "crates/meter/src/lib.rt"
 SCALE = "crates/meter/src/deeper/scale.rt"
 MAIN = "crates/show/src/main.rt"
+FETCH = "crates/reader/src/lib.rt"
 READING = "crates/meter/specs/Reading.antt"
 LAWS = "crates/meter/specs/Laws.antt"
 SAYS = "crates/meter/proofs/Says.antt"
@@ -25,6 +26,84 @@ class Source:
 
 
 CONTRACTS = [
+    Source(
+        "a function that reads and asks something of its caller",
+        FETCH,
+        "    ensures within {",
+        "    requires { ⌜ 1 ≤ length (now room) ⌝ }\n    ensures within {",
+        "fn fetch has a `requires`",
+    ),
+    Source(
+        "a function that reads and says nothing of its result",
+        FETCH,
+        "Within (length (now (room .entry))) r",
+        "Within (length (now (room .entry))) (length (now (room .exit)))",
+        "fn fetch reads, and no equation and no definition of specs/ speaks of its result",
+    ),
+    Source(
+        "a function that reads and says nothing of the room afterwards",
+        FETCH,
+        "    ensures long { λ _. ⌜ length (now (room .exit)) ≡ length (now (room .entry)) ⌝ }\n",
+        "",
+        "fn fetch reads, and no equation and no definition of specs/ speaks of `room` afterwards",
+    ),
+    Source(
+        "a function that reads and says of the room what holds of every room",
+        FETCH,
+        "length (now (room .exit)) ≡ length (now (room .entry))",
+        "0 ≤ length (now (room .exit))",
+        "fn fetch reads, and no equation and no definition of specs/ speaks of `room` afterwards under no premise",
+    ),
+    Source(
+        "a function that reads and speaks of the room afterwards in a premise",
+        FETCH,
+        "λ _. ⌜ length (now (room .exit)) ≡ length (now (room .entry)) ⌝",
+        "λ r. ⌜ (length (now (room .exit)) ≡ length (now (room .entry)) → Within (length (now (room .entry))) r) ⌝",
+        "fn fetch reads, and no equation and no definition of specs/ speaks of `room` afterwards under no premise",
+    ),
+    Source(
+        "a function that reads and keeps the room's length under a premise",
+        FETCH,
+        "λ _. ⌜ length (now (room .exit)) ≡ length (now (room .entry)) ⌝",
+        "λ r. ⌜ (1 ≤ r → length (now (room .exit)) ≡ length (now (room .entry))) ⌝",
+        "fn fetch reads, and no equation and no definition of specs/ speaks of `room` afterwards under no premise",
+    ),
+    Source(
+        "a function that reads and says of its result what holds of every number",
+        FETCH,
+        "Within (length (now (room .entry))) r",
+        "0 ≤ r",
+        "fn fetch reads, and no equation and no definition of specs/ speaks of its result under no premise",
+    ),
+    Source(
+        "a function that reads and speaks of its result under a premise",
+        FETCH,
+        "⌜ Within (length (now (room .entry))) r ⌝",
+        "⌜ (1 ≤ length (now (room .exit)) → Within (length (now (room .entry))) r) ⌝",
+        "fn fetch reads, and no equation and no definition of specs/ speaks of its result under no premise",
+    ),
+    Source(
+        "a second function of the name that is listed as reading",
+        "crates/reader/src/deeper.rt",
+        None,
+        right.FILES[FETCH],
+        "reader has 2 public functions `fetch`",
+        "reader has",
+    ),
+    Source(
+        "a function that reads and is visible to C",
+        FETCH,
+        "pub fn fetch(",
+        '#[no_mangle]\npub extern "C" fn fetch(',
+        "fn fetch is visible to C, and listed as one that reads",
+    ),
+    Source(
+        "a function beside the one that is listed as reading",
+        FETCH,
+        "pub fn fetch(",
+        "pub fn fetched(x: &mut [u8]) -> usize\n    ensures { λ r. ⌜ Within (length (now (x .exit))) r ⌝ }\n{\n    0\n}\n\npub fn fetch(",
+        "fn fetched has no equation that fixes its result",
+    ),
     Source(
         "a dropped `content` clause",
         LIB,
@@ -923,6 +1002,8 @@ LISTS = [
     ("a theorem of no file", {"theorems": [*right.THEOREMS, ("meter", "More", "more", "More")]}, "proofs/More.antt is missing"),
     ("a theorem listed twice", {"theorems": [*right.THEOREMS, right.THEOREMS[0]]}, "`reading-says` is listed twice"),
     ("data that is a statement", {"data": []}, "no listed theorem proves `Pair`"),
+    ("a function that reads left out of the list", {"reading": []}, "fn fetch has no equation that fixes its result"),
+    ("a function that reads and is not there", {"reading": [("reader", "fetch"), ("reader", "more")]}, "reader has 0 public functions `more`"),
     ("data that is not there", {"data": [("meter", "Pair"), ("meter", "More")]}, "DATA has `More`, which is not there"),
 ]
 

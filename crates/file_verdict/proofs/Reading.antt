@@ -56,3 +56,22 @@ read-turn have room (pos n) h = on (eqb n 0) refl (leb (have + n) room) refl
         let z = eqb-false n 0 e in
         let l = leb-true (have + n) room f in
         (omega arith, l)
+
+-- a file that has ended has as many bytes as were read
+abbrev EndsAt : ℕ → Progress → Type 0
+EndsAt have (Ended Unreadable) = Unit {0}
+EndsAt have (Ended (Size n)) = n ≡ have
+EndsAt have (More n) = Unit {0}
+
+ends-at : (have room : ℕ) (got : ℤ) → EndsAt have (afterRead have room got)
+unfolding afterRead
+ends-at have room (negsuc k) = tt
+ends-at have room (pos n) = on (eqb n 0) (leb (have + n) room)
+  where
+    on : (t u : Bool) → EndsAt have (cond t (Ended (Size have)) (cond u (More (have + n)) (Ended Unreadable)))
+    on true u = refl
+    on false true = tt
+    on false false = tt
+
+pub ended-size : (have room : ℕ) (got : ℤ) {n : ℕ} → afterRead have room got ≡ Ended (Size n) → n ≡ have
+ended-size have room got e = subst (EndsAt have) e (ends-at have room got)

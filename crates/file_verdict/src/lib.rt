@@ -1,11 +1,12 @@
 // From the bytes of `book.card` and `message.bin` to the line that the program `judge` writes: docs/RULES.md, 'The program'.
-// The card is judged first (`load_card`), and only where it gives rows is there a message to judge (`message_line`).
-// Not here: opening and reading the files (judge), and the line's bytes (verdict_line).
+// The card is judged first (`load_card`), and only where it gives rows is there a message to judge (`message_line`). The card, and the line for what a
+// check said (`line_of`), are those of the program `judge_capture` too.
+// Not here: opening and reading the files (program_files), and the line's bytes (verdict_line).
 //
 // The book is lent as ids, key lengths, key store, received counters, sent counters and row count, in this order.
 ghost use mathlib.Core.Path.{_≡_};
 ghost use Rattle.key_book.specs.Book.{bookOf};
-ghost use Rattle.file_verdict.specs.Files.{fileIn, MayBeJudged, loadedOf, rowsLoaded, bookLoaded, messageLine, receivedLeft, afterRead};
+ghost use Rattle.file_verdict.specs.Files.{fileIn, MayBeJudged, loadedOf, rowsLoaded, bookLoaded, verdictLine, messageLine, receivedLeft, afterRead};
 use book_card::ReadAnswer;
 use delayed_auth::Verdict;
 use verdict_line::Line;
@@ -104,6 +105,16 @@ pub fn load_card(
     }
 }
 
+// The line for what a check said.
+pub fn line_of(verdict: Verdict) -> Line
+    ensures { λ r. ⌜ r ≡ verdictLine verdict ⌝ }
+{
+    match verdict {
+        Verdict::Accepted(row, counter) => Line::Accepted(row, counter),
+        Verdict::Refused(refusal) => Line::Refused(refusal),
+    }
+}
+
 // The line for a message, which is checked by the lent book.
 pub fn message_line(
     content: Content,
@@ -129,8 +140,5 @@ pub fn message_line(
         return Line::Unreadable;
     };
     let verdict = delayed_auth::check(ids, lengths, store, received, sent, rows, &room[..size]);
-    match verdict {
-        Verdict::Accepted(row, counter) => Line::Accepted(row, counter),
-        Verdict::Refused(refusal) => Line::Refused(refusal),
-    }
+    line_of(verdict)
 }

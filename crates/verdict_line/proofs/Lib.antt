@@ -1,5 +1,5 @@
 mod Digits
 mod Places
-mod Lines
+pub mod Lines
 pub mod Says
 pub mod Computed

@@ -2,9 +2,10 @@
 use Prim.Native.Nat.{_-_, _^_}
 use native.Mathlib.Omega.{arith}
 use Rattle.refusal.proofs.Names.{numbers-tell}
+use Rattle.verdict_line.specs.declared.Line.the-variants.{Accepted}
 use Rattle.verdict_line.specs.Laws.{DecimalSays, SizeWithin, LongestLine}
 use Rattle.verdict_line.proofs.Digits.{decimal-one, decimal-more, length-largest}
-use Rattle.verdict_line.proofs.Lines.{accepted-length, accepted-most, refused-most, size-fits}
+use Rattle.verdict_line.proofs.Lines.{accepted-length, accepted-most, refused-most, numbered-length, numbered-most, size-fits}
 
 pub decimal-says : DecimalSays
 decimal-says = record { one = decimal-one; more = decimal-more }
@@ -17,5 +18,11 @@ longest-line = record {
   accepted-most = λ row counter h k. accepted-most h k;
   refused-most = λ r. refused-most (omega (arith, numbers-tell .in-a-byte r));
   unreadable-most = omega arith;
+  skipped-most = omega arith;
+  cut-most = omega arith;
+  numbered-most = numbered-most;
   reached = let a = accepted-length (2 ^ 64 - 1) (2 ^ 64 - 1) in let x = length-largest in omega arith;
+  numbered-reached =
+      let line = Accepted (2 ^ 64 - 1) (2 ^ 64 - 1) in
+      omega (arith, numbered-length (2 ^ 64 - 1) line, accepted-length (2 ^ 64 - 1) (2 ^ 64 - 1), length-largest);
 }

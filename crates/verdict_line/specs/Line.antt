@@ -1,4 +1,4 @@
--- The line that `judge` writes, as its bytes: docs/RULES.md, 'The program'.
+-- The lines that the programs write, as their bytes: docs/RULES.md, 'The program' and 'A recording'.
 use mathlib.Core.Path.{_≡_}
 use mathlib.Core.Bool.{cond}
 use mathlib.Core.List.{List, [], _∷_, _++_}
@@ -9,11 +9,15 @@ use Rattle.octets.specs.Bytes.{written}
 use Rattle.refusal.specs.Number.{numberOf}
 use Rattle.verdict_line.specs.Decimal.{decimal}
 use Rattle.verdict_line.specs.declared.Line.{Line}
-use Rattle.verdict_line.specs.declared.Line.the-variants.{Accepted, Refused, Unreadable}
+use Rattle.verdict_line.specs.declared.Line.the-variants.{Accepted, Refused, Unreadable, Skipped, Cut}
 
 -- the bytes of the longest line
 abbrev pub lineMost : ℕ
 lineMost = 63
+
+-- and with a number in front
+abbrev pub numberedMost : ℕ
+numberedMost = 84
 
 -- `accepted row `, a space at the end
 abbrev pub acceptedRow : List ℕ
@@ -31,6 +35,17 @@ refusedWord = 114 ∷ 101 ∷ 102 ∷ 117 ∷ 115 ∷ 101 ∷ 100 ∷ 32 ∷ []
 abbrev pub unreadableLine : List ℕ
 unreadableLine = 117 ∷ 110 ∷ 114 ∷ 101 ∷ 97 ∷ 100 ∷ 97 ∷ 98 ∷ 108 ∷ 101 ∷ 10 ∷ []
 
+-- `skipped` and a newline
+abbrev pub skippedLine : List ℕ
+skippedLine = 115 ∷ 107 ∷ 105 ∷ 112 ∷ 112 ∷ 101 ∷ 100 ∷ 10 ∷ []
+
+-- `cut` and a newline
+abbrev pub cutLine : List ℕ
+cutLine = 99 ∷ 117 ∷ 116 ∷ 10 ∷ []
+
+abbrev pub space : List ℕ
+space = 32 ∷ []
+
 abbrev pub newline : List ℕ
 newline = 10 ∷ []
 
@@ -44,21 +59,27 @@ abbrev pub lineOf : Line → List ℕ
 lineOf (Accepted row counter) = acceptedLine row counter
 lineOf (Refused refusal) = refusedLine (numberOf refusal)
 lineOf Unreadable = unreadableLine
+lineOf Skipped = skippedLine
+lineOf Cut = cutLine
+
+-- with a record's number in front
+unfoldable pub numberedLine : ℕ → Line → List ℕ
+numberedLine number line = decimal number ++ space ++ lineOf line
 
 -- the bytes of s stand from a place on, the others as they were, and r is the place after them
 pub record PutAt (old : List ℕ) (at : ℕ) (s new : List ℕ) (r : ℕ) : Type 0 where
   pub place : r ≡ at + length s
   pub content : new ≡ written at s old
 
--- they stand at the front, and are no more than a line's
-pub record Made (old s new : List ℕ) (r : ℕ) : Type 0 where
-  pub put : PutAt old 0 s new r
+-- they stand so, and are no more than a line's
+pub record Made (old : List ℕ) (at : ℕ) (s new : List ℕ) (r : ℕ) : Type 0 where
+  pub put : PutAt old at s new r
   pub most : length s ≤ lineMost
 
--- what is returned for so much room: the line's size, or 0 where it does not fit
-unfoldable pub sizeIn : Line → ℕ → ℕ
-sizeIn line room = cond (leb (length (lineOf line)) room) (length (lineOf line)) 0
+-- what is returned for a line and so much room: the line's size, or 0 where it does not fit
+unfoldable pub sizeIn : List ℕ → ℕ → ℕ
+sizeIn line room = cond (leb (length line) room) (length line) 0
 
 -- the room afterwards: the line at its front and the rest as it was, or nothing changed where it does not fit
-unfoldable pub outAfter : Line → List ℕ → List ℕ
-outAfter line out = cond (leb (length (lineOf line)) (length out)) (written 0 (lineOf line) out) out
+unfoldable pub outAfter : List ℕ → List ℕ → List ℕ
+outAfter line out = cond (leb (length line) (length out)) (written 0 line out) out

@@ -1,17 +1,24 @@
-// The line that the program `judge` writes, newline included: docs/RULES.md, 'The program'.
+// The lines that the programs write, newline included: docs/RULES.md, 'The program' and 'A recording'.
 //   accepted row R counter C
 //   refused N
 //   unreadable
-// Numbers are decimal, without leading zeros. Not here: reading the files and judging what they hold.
+//   skipped
+//   cut
+// Those of a recording's records have the record's number and a space in front. Numbers are decimal, without leading zeros.
+// Not here: reading the files and judging what they hold.
 ghost use mathlib.Core.Path.{_≡_};
 ghost use Prim.Native.Nat.{_+_, _≤_};
 ghost use lib.ListN.{length};
 ghost use Rattle.verdict_line.specs.Decimal.{decimal};
-ghost use Rattle.verdict_line.specs.Line.{lineMost, acceptedLine, refusedLine, lineOf, PutAt, Made, sizeIn, outAfter};
+ghost use Rattle.verdict_line.specs.Line.{lineMost, numberedMost, acceptedLine, refusedLine, lineOf, numberedLine};
+ghost use Rattle.verdict_line.specs.Line.{PutAt, Made, sizeIn, outAfter};
 use refusal::Refusal;
 
 // The bytes of the longest line, with a row and a counter of twenty digits each.
 pub const LINE_MOST: usize = 63;
+
+// The same with a number of twenty digits and a space in front.
+pub const NUMBERED_MOST: usize = 84;
 
 // The character 0; the other digits follow it.
 const DIGIT_ZERO: u8 = 48;
@@ -22,8 +29,12 @@ pub enum Line {
     Accepted(usize, u64),
     // The card or the message is refused.
     Refused(Refusal),
-    // A file is missing, can't be read or is too large.
+    // A file is missing, can't be read or is too large, or a recording is no capture that is judged.
     Unreadable,
+    // A recording's record carries nothing to judge.
+    Skipped,
+    // A recording ends inside a record, a record is too large, or a read failed.
+    Cut,
 }
 
 // Copies bytes to a place, and returns the place after them.
@@ -49,12 +60,12 @@ fn put_decimal(out: &mut [u8], at: usize, x: u64) -> usize
     last + 1
 }
 
-// Puts the line of an accepted message at the front of a room that any line fits, and returns its size.
-fn put_accepted(out: &mut [u8], row: u64, counter: u64) -> usize
-    requires { ⌜ lineMost ≤ length (now out) ⌝ }
-    ensures { λ r. ⌜ Made (now (out .entry)) (acceptedLine row counter) (now (out .exit)) r ⌝ }
+// Puts the line of an accepted message at a place behind which there is room for any line, and returns the place after it.
+fn put_accepted(out: &mut [u8], at: usize, row: u64, counter: u64) -> usize
+    requires { ⌜ at + lineMost ≤ length (now out) ⌝ }
+    ensures { λ r. ⌜ Made (now (out .entry)) at (acceptedLine row counter) (now (out .exit)) r ⌝ }
 {
-    let row_at = put(out, 0, b"accepted row ");
+    let row_at = put(out, at, b"accepted row ");
     let word_at = put_decimal(out, row_at, row);
     let counter_at = put(out, word_at, b" counter ");
     let end = put_decimal(out, counter_at, counter);
@@ -62,38 +73,69 @@ fn put_accepted(out: &mut [u8], row: u64, counter: u64) -> usize
 }
 
 // The same for a refusal's number.
-fn put_refused(out: &mut [u8], number: u8) -> usize
-    requires { ⌜ lineMost ≤ length (now out) ⌝ }
-    ensures { λ r. ⌜ Made (now (out .entry)) (refusedLine number) (now (out .exit)) r ⌝ }
+fn put_refused(out: &mut [u8], at: usize, number: u8) -> usize
+    requires { ⌜ at + lineMost ≤ length (now out) ⌝ }
+    ensures { λ r. ⌜ Made (now (out .entry)) at (refusedLine number) (now (out .exit)) r ⌝ }
 {
-    let number_at = put(out, 0, b"refused ");
+    let number_at = put(out, at, b"refused ");
     let end = put_decimal(out, number_at, number as u64);
     put(out, end, b"\n")
 }
 
 // The same for any line.
-fn put_line(out: &mut [u8], line: Line) -> usize
-    requires { ⌜ lineMost ≤ length (now out) ⌝ }
-    ensures { λ r. ⌜ Made (now (out .entry)) (lineOf line) (now (out .exit)) r ⌝ }
+fn put_line(out: &mut [u8], at: usize, line: Line) -> usize
+    requires { ⌜ at + lineMost ≤ length (now out) ⌝ }
+    ensures { λ r. ⌜ Made (now (out .entry)) at (lineOf line) (now (out .exit)) r ⌝ }
 {
     match line {
-        Line::Accepted(row, counter) => put_accepted(out, row as u64, counter),
-        Line::Refused(refusal) => put_refused(out, refusal::number(refusal)),
-        Line::Unreadable => put(out, 0, b"unreadable\n"),
+        Line::Accepted(row, counter) => put_accepted(out, at, row as u64, counter),
+        Line::Refused(refusal) => put_refused(out, at, refusal::number(refusal)),
+        Line::Unreadable => put(out, at, b"unreadable\n"),
+        Line::Skipped => put(out, at, b"skipped\n"),
+        Line::Cut => put(out, at, b"cut\n"),
     }
+}
+
+// Puts a line with a number and a space in front of it at the front of a room that any such line fits, and returns its size.
+fn put_numbered(out: &mut [u8], number: u64, line: Line) -> usize
+    requires { ⌜ numberedMost ≤ length (now out) ⌝ }
+    ensures { λ r. ⌜ PutAt (now (out .entry)) 0 (numberedLine number line) (now (out .exit)) r × (r ≤ numberedMost) ⌝ }
+{
+    let end = put_decimal(out, 0, number);
+    let at = put(out, end, b" ");
+    put_line(out, at, line)
+}
+
+// Copies a made line to the front of the lent room where it fits, and returns its size; else it writes nothing and returns 0.
+fn put_made(out: &mut [u8], made: &[u8]) -> usize
+    ensures size { λ r. ⌜ r ≡ sizeIn (now (made .entry)) (length (now (out .entry))) ⌝ }
+    ensures content { λ _. ⌜ now (out .exit) ≡ outAfter (now (made .entry)) (now (out .entry)) ⌝ }
+{
+    if out.len() < made.len() {
+        return 0;
+    }
+    put(out, 0, made)
 }
 
 // Writes a line to the front of the lent room and returns its size. Later bytes stay as they were.
 // Where the room is too small it returns 0 and writes nothing; LINE_MOST bytes are enough for every line.
 pub fn write_line(out: &mut [u8], line: Line) -> usize
-    ensures size { λ r. ⌜ r ≡ sizeIn line (length (now (out .entry))) ⌝ }
-    ensures content { λ _. ⌜ now (out .exit) ≡ outAfter line (now (out .entry)) ⌝ }
+    ensures size { λ r. ⌜ r ≡ sizeIn (lineOf line) (length (now (out .entry))) ⌝ }
+    ensures content { λ _. ⌜ now (out .exit) ≡ outAfter (lineOf line) (now (out .entry)) ⌝ }
     ensures whole { λ r. ⌜ (lineMost ≤ length (now (out .entry)) → r ≡ length (lineOf line)) ⌝ }
 {
     let mut made = [0u8; LINE_MOST];
-    let size = put_line(&mut made, line);
-    if out.len() < size {
-        return 0;
-    }
-    put(out, 0, &made[..size])
+    let size = put_line(&mut made, 0, line);
+    put_made(out, &made[..size])
+}
+
+// The same for a line with a number and a space in front; NUMBERED_MOST bytes are enough for every number and line.
+pub fn write_numbered(out: &mut [u8], number: u64, line: Line) -> usize
+    ensures size { λ r. ⌜ r ≡ sizeIn (numberedLine number line) (length (now (out .entry))) ⌝ }
+    ensures content { λ _. ⌜ now (out .exit) ≡ outAfter (numberedLine number line) (now (out .entry)) ⌝ }
+    ensures whole { λ r. ⌜ (numberedMost ≤ length (now (out .entry)) → r ≡ length (numberedLine number line)) ⌝ }
+{
+    let mut made = [0u8; NUMBERED_MOST];
+    let size = put_numbered(&mut made, number, line);
+    put_made(out, &made[..size])
 }

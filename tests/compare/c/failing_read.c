@@ -1,8 +1,11 @@
 /*
- * A disk that breaks while a file is read. Loaded in front of the C library (LD_PRELOAD), it passes a program's first
- * read of the file that FAILING_READ names, and fails every later one with EIO. Other files are read as ever.
+ * A disk that is slow, or breaks while a file is read. Loaded in front of the C library (LD_PRELOAD), it changes a
+ * program's reads of the file that FAILING_READ names: none gives more than FAILING_READ_PIECE bytes, and behind
+ * FAILING_READ_BEHIND bytes in all every one fails with EIO. A limit that isn't set is none. Other files are read as
+ * ever.
  */
 #define _GNU_SOURCE
+#include "limit.h"
 #include <errno.h>
 #include <stdio.h>
 #include <stdlib.h>
@@ -30,11 +33,19 @@ static int is_named(int fd)
 
 ssize_t read(int fd, void *bytes, size_t room)
 {
-    static int reads = 0;
+    static size_t given = 0;
+    size_t left;
+    ssize_t size;
 
-    if (is_named(fd) && reads++ > 0) {
+    if (!is_named(fd))
+        return syscall(SYS_read, fd, bytes, room);
+    left = limit("FAILING_READ_BEHIND") - given;
+    if (left == 0) {
         errno = EIO;
         return -1;
     }
-    return syscall(SYS_read, fd, bytes, room);
+    size = syscall(SYS_read, fd, bytes, lower(room, lower(left, limit("FAILING_READ_PIECE"))));
+    if (size > 0)
+        given += (size_t)size;
+    return size;
 }

@@ -3,8 +3,9 @@
 
 use crate::random::Random;
 use reference::examples::hex;
+use std::collections::BTreeMap;
 use std::env;
-use std::fmt::Debug;
+use std::fmt::{Debug, Display};
 use std::io::Write;
 
 const CASES: u64 = 100_000;
@@ -62,41 +63,48 @@ pub fn for_each_case(
     }
 }
 
-/// How often each number came up.
-pub struct Tally {
+/// How often each number came up, or each of other things.
+pub struct Tally<T> {
     name: String,
-    counts: [u64; 18],
+    counts: BTreeMap<T, u64>,
 }
 
-impl Tally {
+impl<T: Ord + Display> Tally<T> {
     pub fn new(name: &str) -> Self {
         Tally {
             name: name.to_string(),
-            counts: [0; 18],
+            counts: BTreeMap::new(),
         }
     }
 
-    pub fn count(&mut self, number: u8) {
-        self.counts[usize::from(number)] += 1;
+    pub fn count(&mut self, what: T) {
+        *self.counts.entry(what).or_default() += 1;
     }
 
     /// Prints a line past the test harness, which holds back what a passing test prints.
     pub fn print(&self) {
-        let total: u64 = self.counts.iter().sum();
+        let total: u64 = self.counts.values().sum();
         let parts: Vec<String> = self
             .counts
             .iter()
-            .enumerate()
-            .filter(|(_, count)| **count > 0)
-            .map(|(number, count)| format!("{number}: {count}"))
+            .map(|(what, count)| format!("{what}: {count}"))
             .collect();
         say(&format!("{}: {total} ({})", self.name, parts.join(", ")));
     }
 
-    pub fn require(&self, reachable: &[u8]) {
-        for number in reachable {
-            let count = self.counts[usize::from(*number)];
-            assert!(count > 0, "{}: {number} never came up", self.name);
+    pub fn require(&self, reachable: &[T]) {
+        self.require_often(reachable, 1);
+    }
+
+    /// Each of these came up at least so often.
+    pub fn require_often(&self, reachable: &[T], least: u64) {
+        for what in reachable {
+            let count = self.counts.get(what).copied().unwrap_or(0);
+            assert!(
+                count >= least,
+                "{}: {what} came up {count} times, not {least}",
+                self.name
+            );
         }
     }
 }

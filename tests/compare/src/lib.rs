@@ -2,10 +2,11 @@
 //! show any stray write, counts of the numbers that came up, and whole runs of checks and seals.
 //!
 //! Environment variables, all optional:
-//!   RIMEMAGPIE_CASES    cases for each entry (100,000)
-//!   RIMEMAGPIE_SEED     what the cases are drawn from (1)
-//!   RIMEMAGPIE_LIB_DIR  the folder of librimemagpie.a and libdigest_steps.a (target/staticlib)
-//!   RIMEMAGPIE_JUDGE    the program judge (target/bin/judge)
+//!   RIMEMAGPIE_CASES          cases for each entry (100,000)
+//!   RIMEMAGPIE_SEED           what the cases are drawn from (1)
+//!   RIMEMAGPIE_LIB_DIR        the folder of both static libraries (target/staticlib)
+//!   RIMEMAGPIE_JUDGE          the program judge (target/bin/judge)
+//!   RIMEMAGPIE_JUDGE_CAPTURE  the program judge_capture (target/bin/judge_capture)
 //! Relative paths are taken from the top of the repository.
 
 #![forbid(unsafe_code)]
@@ -14,5 +15,7 @@ pub mod generate;
 pub mod harness;
 pub mod lent;
 pub mod outside;
+pub mod programs;
 pub mod random;
+pub mod recordings;
 pub mod runs;

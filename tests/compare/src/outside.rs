@@ -1,10 +1,10 @@
-//! What stands outside Rust: the repository's files, the built library and program, temporary
+//! What stands outside Rust: the repository's files, the built library and programs, temporary
 //! folders, and commands.
 
 use std::env;
 use std::fs;
 use std::path::{Path, PathBuf};
-use std::process::{Command, Output, Stdio};
+use std::process::{Child, Command, ExitStatus, Output, Stdio};
 use std::sync::atomic::{AtomicUsize, Ordering};
 use std::thread;
 use std::time::{Duration, Instant};
@@ -28,6 +28,11 @@ pub fn static_library() -> PathBuf {
 /// The program judge.
 pub fn judge() -> PathBuf {
     built("RIMEMAGPIE_JUDGE", "target/bin/judge", None)
+}
+
+/// The program judge_capture.
+pub fn judge_capture() -> PathBuf {
+    built("RIMEMAGPIE_JUDGE_CAPTURE", "target/bin/judge_capture", None)
 }
 
 /// Something that must have been built first, where the variable says or else at its usual place.
@@ -96,14 +101,33 @@ pub fn run_well(command: &mut Command) -> String {
 /// Runs a command that must succeed within a time, at the end of which it is stopped, and gives
 /// what it wrote: a few lines, which a pipe has room for.
 pub fn run_within(limit: Duration, command: &mut Command) -> String {
-    let started = Instant::now();
-    let mut child = command
-        .stdin(Stdio::null())
-        .stdout(Stdio::piped())
-        .stderr(Stdio::piped())
+    let mut child = started(
+        command
+            .stdin(Stdio::null())
+            .stdout(Stdio::piped())
+            .stderr(Stdio::piped()),
+    );
+    ended_within(limit, command, &mut child);
+    let output = child
+        .wait_with_output()
+        .expect("a child's pipes can be read");
+    written(command, output)
+}
+
+/// Starts a command; one that can't be started is named.
+pub fn started(command: &mut Command) -> Child {
+    command
         .spawn()
-        .unwrap_or_else(|error| panic!("{command:?} can't be started: {error}"));
-    while child.try_wait().expect("a child has a state").is_none() {
+        .unwrap_or_else(|error| panic!("{command:?} can't be started: {error}"))
+}
+
+/// How a started command ends, which it must within a time, at the end of which it is stopped.
+pub fn ended_within(limit: Duration, command: &Command, child: &mut Child) -> ExitStatus {
+    let started = Instant::now();
+    loop {
+        if let Some(status) = child.try_wait().expect("a child has a state") {
+            return status;
+        }
         if started.elapsed() > limit {
             child.kill().expect("a child can be stopped");
             child.wait().expect("a stopped child ends");
@@ -111,10 +135,6 @@ pub fn run_within(limit: Duration, command: &mut Command) -> String {
         }
         thread::sleep(Duration::from_millis(5));
     }
-    let output = child
-        .wait_with_output()
-        .expect("a child's pipes can be read");
-    written(command, output)
 }
 
 /// What a command wrote, which must have succeeded.

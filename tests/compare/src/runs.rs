@@ -148,7 +148,7 @@ fn new_check(random: &mut Random, book: &Book, seen: &mut Vec<Vec<u8>>) -> Step 
 fn check_again(random: &mut Random, seen: &[Vec<u8>]) -> Step {
     let origin = random.below(seen.len());
     Step::Check {
-        message: maybe_relayed(random, &seen[origin]),
+        message: relays::maybe_changed(random, &seen[origin]),
         origin,
     }
 }
@@ -168,13 +168,6 @@ pub fn any_id(random: &mut Random, book: &Book) -> u32 {
     match random.below(10) {
         0 => messages::unknown_id(random, book, id),
         _ => id,
-    }
-}
-
-fn maybe_relayed(random: &mut Random, message: &[u8]) -> Vec<u8> {
-    match random.below(2) {
-        0 => message.to_vec(),
-        _ => relays::changed(random, message),
     }
 }
 
@@ -260,7 +253,7 @@ fn shuffled(random: &mut Random, steps: &[Step]) -> Vec<usize> {
 fn relayed_step(random: &mut Random, step: &Step) -> Step {
     match step {
         Step::Check { message, origin } => Step::Check {
-            message: maybe_relayed(random, message),
+            message: relays::maybe_changed(random, message),
             origin: *origin,
         },
         seal => seal.clone(),
@@ -308,7 +301,7 @@ fn earlier_check(random: &mut Random, second: &SecondRun) -> Option<Step> {
     }
     match &second.steps[random.below(second.steps.len())] {
         Step::Check { message, origin } => Some(Step::Check {
-            message: maybe_relayed(random, message),
+            message: relays::maybe_changed(random, message),
             origin: *origin,
         }),
         Step::Seal { .. } => None,

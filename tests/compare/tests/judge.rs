@@ -5,29 +5,20 @@
 
 use compare::generate::{books, cards, messages};
 use compare::harness::{for_each_case, same, Tally};
-use compare::outside::{judge, repository_file, run, run_well, run_within, Folder};
+use compare::outside::{judge, run_within, Folder};
+use compare::programs::{judged_by, judged_in_pieces, pipe, put, At, Disk, CARD};
 use compare::random::Random;
 use reference::card::{card_of_rows, rows_of_book, Row};
+use reference::check;
 use reference::examples::{
     accepted_by_b, accepted_by_b_with_82, message_with, refused_by_b, CARD_B, CARD_EMPTY,
 };
-use reference::{card_read, check, Book};
-use std::fs;
-use std::io::Write;
-use std::path::PathBuf;
+use reference::program::{book_of_card, in_words};
+use reference::refusal::number_of;
 use std::process::Command;
-use std::thread;
-use std::time::{Duration, SystemTime};
+use std::time::Duration;
 
-const CARD: &str = "book.card";
 const MESSAGE: &str = "message.bin";
-
-/// What stands at one of the two names.
-enum At<'a> {
-    Nothing,
-    File(&'a [u8]),
-    Folder,
-}
 
 /// The line that judge writes on these two.
 fn judged(card: At, message: At) -> String {
@@ -37,46 +28,9 @@ fn judged(card: At, message: At) -> String {
     judged_in(&folder)
 }
 
-fn put(folder: &Folder, name: &str, what: At) {
-    match what {
-        At::Nothing => {}
-        At::File(bytes) => folder.write(name, bytes),
-        At::Folder => fs::create_dir(folder.path().join(name)).expect("a folder can be made"),
-    }
-}
-
 /// Runs judge in a folder, which it must leave as it was, and gives what it wrote.
 fn judged_in(folder: &Folder) -> String {
     judged_by(&mut Command::new(judge()), folder)
-}
-
-fn judged_by(command: &mut Command, folder: &Folder) -> String {
-    let before = contents(folder);
-    let output = run(command.current_dir(folder.path()));
-    assert_eq!(contents(folder), before, "judge changed a file");
-    assert!(
-        output.status.success(),
-        "judge ended with {}",
-        output.status
-    );
-    assert_eq!(output.stderr, b"", "judge wrote to standard error");
-    String::from_utf8(output.stdout).expect("judge writes text")
-}
-
-/// Name, bytes (of a file) and time of the last change of all that a folder holds.
-fn contents(folder: &Folder) -> Vec<(String, Option<Vec<u8>>, SystemTime)> {
-    let mut all: Vec<_> = fs::read_dir(folder.path())
-        .expect("the folder can be read")
-        .map(|entry| {
-            let entry = entry.expect("the folder can be read");
-            let changed = entry.metadata().and_then(|data| data.modified());
-            let name = entry.file_name().to_string_lossy().into_owned();
-            let changed = changed.expect("a file has a time");
-            (name, fs::read(entry.path()).ok(), changed)
-        })
-        .collect();
-    all.sort();
-    all
 }
 
 fn judged_files(card: &[u8], message: &[u8]) -> String {
@@ -133,35 +87,21 @@ fn refused_7() {
 
 #[test]
 fn rows_and_counters_are_written_in_full() {
-    let row = |id, received, key: &[u8]| Row {
-        id,
-        received,
-        sent: 0,
-        key: key.to_vec(),
-    };
-    let mut rows: Vec<Row> = (0..64).map(|id| row(id, 0, &[9; 64])).collect();
+    let mut rows: Vec<Row> = (0..64).map(|id| Row::new(id, &[9; 64])).collect();
     rows[63].received = u64::MAX - 1;
     let card = card_of_rows(&rows);
     assert_eq!(card.len(), 5_638);
 
-    let last = signed(&[9; 64], 63, u64::MAX);
+    let last = messages::signed(&[9; 64], 63, u64::MAX);
     let line = "accepted row 63 counter 18446744073709551615\n";
     assert_eq!(judged_files(&card, &last), line);
-    let first = signed(&[9; 64], 0, 1);
+    let first = messages::signed(&[9; 64], 0, 1);
     assert_eq!(judged_files(&card, &first), "accepted row 0 counter 1\n");
-    let tenth = signed(&[9; 64], 10, 1_000_000);
+    let tenth = messages::signed(&[9; 64], 10, 1_000_000);
     let line = "accepted row 10 counter 1000000\n";
     assert_eq!(judged_files(&card, &tenth), line);
-    let zero = signed(&[9; 64], 5, 0);
+    let zero = messages::signed(&[9; 64], 5, 0);
     assert_eq!(judged_files(&card, &zero), "refused 11\n");
-}
-
-/// Bench example 9's message signed anew.
-fn signed(key: &[u8], id: u32, counter: u64) -> Vec<u8> {
-    let mut message = accepted_by_b();
-    let shape = reference::message::full_form(&message).expect("in full form");
-    reference::auth::sign(&mut message, &shape, key, id, counter);
-    message
 }
 
 #[test]
@@ -185,15 +125,7 @@ fn the_card_is_judged_first() {
     for message in messages {
         assert_eq!(judged(At::File(&longer), message), "refused 15\n");
     }
-    let rows_65: Vec<Row> = (0..65)
-        .map(|id| Row {
-            id,
-            received: 0,
-            sent: 0,
-            key: vec![1],
-        })
-        .collect();
-    let line = judged_files(&card_of_rows(&rows_65), &accepted_by_b());
+    let line = judged_files(&cards::of_65_rows(), &accepted_by_b());
     assert_eq!(line, "refused 15\n");
 }
 
@@ -213,53 +145,36 @@ fn the_message_is_opened_behind_the_card() {
     for (card, line) in cards {
         let folder = Folder::new();
         put(&folder, CARD, card);
-        run_well(Command::new("mkfifo").arg(folder.path().join(MESSAGE)));
+        pipe(&folder, MESSAGE);
         let mut command = Command::new(judge());
         let limit = Duration::from_secs(10);
         assert_eq!(run_within(limit, command.current_dir(folder.path())), line);
     }
 }
 
-/// Builds what makes reads fail, to be loaded in front of the C library.
-fn failing_read(folder: &Folder) -> PathBuf {
-    let library = folder.path().join("failing_read.so");
-    run_well(
-        Command::new("cc")
-            .args(["-std=c11", "-shared", "-fPIC"])
-            .args(["-Wall", "-Wextra", "-Wpedantic", "-Werror"])
-            .arg(repository_file("tests/compare/c/failing_read.c"))
-            .arg("-o")
-            .arg(&library),
-    );
-    library
-}
-
 /// A read that fails makes a file unreadable, though the bytes read before are the whole of it and
-/// would be judged. It takes a judge that calls the C library's `read`.
+/// would be judged.
 #[test]
 fn a_read_that_fails_behind_one_that_passed() {
-    let built = Folder::new();
-    let library = failing_read(&built);
-    let judged_failing = |card: &[u8], message: &[u8], name: &str| {
+    let disk = Disk::new();
+    let judged_failing = |card: &[u8], message: &[u8], (name, behind): (&str, usize)| {
         let folder = Folder::new();
         folder.write(CARD, card);
         folder.write(MESSAGE, message);
-        let mut command = Command::new(judge());
-        command
-            .env("LD_PRELOAD", &library)
-            .env("FAILING_READ", name);
-        judged_by(&mut command, &folder)
+        judged_by(&mut disk.failing(&judge(), name, behind), &folder)
     };
     let message = accepted_by_b();
-    let line = judged_failing(&CARD_B, &message, "another file");
+    let line = judged_failing(&CARD_B, &message, ("another file", 0));
     assert_eq!(line, "accepted row 0 counter 11\n");
-    for name in [CARD, MESSAGE] {
-        let line = judged_failing(&CARD_B, &message, name);
-        assert_eq!(line, "unreadable\n", "{name}");
+    for failing in [(CARD, CARD_B.len()), (MESSAGE, message.len())] {
+        let line = judged_failing(&CARD_B, &message, failing);
+        assert_eq!(line, "unreadable\n", "{failing:?}");
     }
-    let line = judged_failing(&CARD_B[1..], &message, CARD);
+    let refused = &CARD_B[1..];
+    let line = judged_failing(refused, &message, (CARD, refused.len()));
     assert_eq!(line, "unreadable\n", "a card that is refused");
-    let line = judged_failing(&CARD_B, &message[1..], MESSAGE);
+    let refused = &message[1..];
+    let line = judged_failing(&CARD_B, refused, (MESSAGE, refused.len()));
     assert_eq!(line, "unreadable\n", "a message that is refused");
 }
 
@@ -305,24 +220,6 @@ fn files_of_65535_bytes_are_read() {
     assert_eq!(judged_files(&CARD_B, &largest), "refused 2\n");
 }
 
-/// The line on a folder in which a pipe, which gives its bytes a piece to a read, stands in place
-/// of a file.
-fn judged_in_pieces(folder: &Folder, name: &str, pieces: &[&[u8]]) -> String {
-    let pipe = folder.path().join(name);
-    run_well(Command::new("mkfifo").arg(&pipe));
-    thread::scope(|scope| {
-        scope.spawn(|| {
-            let mut end = fs::OpenOptions::new().write(true).open(&pipe);
-            let end = end.as_mut().expect("a pipe can be opened");
-            for piece in pieces {
-                end.write_all(piece).expect("judge reads the pipe");
-                thread::sleep(Duration::from_millis(20));
-            }
-        });
-        run_well(Command::new(judge()).current_dir(folder.path()))
-    })
-}
-
 /// A read that gives fewer bytes than there is room for is followed by another, which goes on where
 /// it stopped.
 #[test]
@@ -331,7 +228,7 @@ fn a_message_in_pieces() {
     let judged_pieces = |pieces: &[&[u8]]| {
         let folder = Folder::new();
         folder.write(CARD, &CARD_B);
-        judged_in_pieces(&folder, MESSAGE, pieces)
+        judged_in_pieces(&judge(), &folder, MESSAGE, pieces)
     };
     let line = judged_pieces(&[&message[..1], &message[1..200], &message[200..]]);
     assert_eq!(line, "accepted row 0 counter 11\n");
@@ -347,7 +244,7 @@ fn a_message_in_pieces() {
 fn a_card_in_pieces() {
     let folder = Folder::new();
     folder.write(MESSAGE, &accepted_by_b());
-    let line = judged_in_pieces(&folder, CARD, &[&CARD_B[..3], &CARD_B[3..]]);
+    let line = judged_in_pieces(&judge(), &folder, CARD, &[&CARD_B[..3], &CARD_B[3..]]);
     assert_eq!(line, "accepted row 0 counter 11\n");
 }
 
@@ -378,26 +275,6 @@ fn card_and_message(random: &mut Random) -> (Vec<u8>, Vec<u8>) {
 
 /// The number and the line for two files that can be read.
 fn expected_line(card: &[u8], message: &[u8]) -> (u8, String) {
-    let mut book = Book {
-        ids: vec![0; 64],
-        lengths: vec![0; 64],
-        store: vec![0; 64 * 64],
-        received: vec![0; 64],
-        sent: vec![0; 64],
-        rows: 0,
-    };
-    let answer = card_read(card, &mut book).and_then(|rows| {
-        book.rows = rows;
-        check(&mut book, message)
-    });
-    match answer {
-        Ok(accepted) => {
-            let (row, counter) = (accepted.row, accepted.counter);
-            (0, format!("accepted row {row} counter {counter}\n"))
-        }
-        Err(refusal) => {
-            let number = refusal.number();
-            (number, format!("refused {number}\n"))
-        }
-    }
+    let answer = book_of_card(card).and_then(|mut book| check(&mut book, message));
+    (number_of(&answer), format!("{}\n", in_words(&answer)))
 }

@@ -32,25 +32,13 @@ fn rfc_2202_test_cases() {
     }
 }
 
-/// Room for some rows, all bytes and numbers 0.
-fn room_for(n: usize) -> Book {
-    Book {
-        ids: vec![0; n],
-        lengths: vec![0; n],
-        store: vec![0; 64 * n],
-        received: vec![0; n],
-        sent: vec![0; n],
-        rows: 0,
-    }
-}
-
 #[test]
 fn example_1_card_of_b() {
     let mut room = [0; 34];
     assert_eq!(lend(&mut book_b()).card_write(&mut room), Ok(34));
     assert_eq!(room, CARD_B);
 
-    let mut read = room_for(1);
+    let mut read = Book::with_room(1);
     let mut lent = lend(&mut read);
     assert_eq!(lent.card_read(&CARD_B), Ok(()));
     read.rows = lent.rows;
@@ -59,7 +47,7 @@ fn example_1_card_of_b() {
 
 #[test]
 fn example_2_empty_card() {
-    let mut book = room_for(1);
+    let mut book = Book::with_room(1);
     book.rows = 1;
     let mut lent = lend(&mut book);
     let longer = [&CARD_EMPTY[..], &[0]].concat();

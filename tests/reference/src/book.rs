@@ -20,6 +20,18 @@ pub struct Book {
 }
 
 impl Book {
+    /// Room for some rows, none of them in use, all bytes and numbers 0.
+    pub fn with_room(n: usize) -> Self {
+        Book {
+            ids: vec![0; n],
+            lengths: vec![0; n],
+            store: vec![0; SLOT * n],
+            received: vec![0; n],
+            sent: vec![0; n],
+            rows: 0,
+        }
+    }
+
     /// Whether all parts have room for the same number of rows, 1,024 at the most.
     pub fn sizes_agree(&self) -> bool {
         let n = self.ids.len();

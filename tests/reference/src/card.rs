@@ -22,6 +22,18 @@ pub struct Row {
     pub key: Vec<u8>,
 }
 
+impl Row {
+    /// A row with both counters at 0.
+    pub fn new(id: u32, key: &[u8]) -> Self {
+        Row {
+            id,
+            received: 0,
+            sent: 0,
+            key: key.to_vec(),
+        }
+    }
+}
+
 /// Reads a card into the lent parts: numbers 1, 15, 17. Returns the number of rows; `book.rows`
 /// stays as it was.
 pub fn card_read(card: &[u8], book: &mut Book) -> Result<usize, Refusal> {

@@ -1,7 +1,8 @@
 //! A second implementation of what the library does, to compare it with: plain, slow and obvious.
 //!
 //! It follows docs/RULES.md and the RFCs, never the proved code: RFC 1321 (MD5), RFC 2104 (HMAC), RFC
-//! 2131 and 2132 (the message and its options), RFC 3046 (option 82) and RFC 3118 (option 90).
+//! 2131 and 2132 (the message and its options), RFC 3046 (option 82) and RFC 3118 (option 90), and
+//! for a recording RFC 791 (IPv4) and RFC 768 (UDP).
 //! It shares no line with the proved library, copies freely and looks at everything from the start
 //! again, since nobody waits for it.
 
@@ -9,11 +10,13 @@
 
 pub mod auth;
 pub mod book;
+pub mod capture;
 pub mod card;
 pub mod examples;
 pub mod hmac;
 pub mod md5;
 pub mod message;
+pub mod program;
 pub mod refusal;
 pub mod relay;
 

@@ -7,25 +7,13 @@ use reference::examples::{
 use reference::refusal::number_of;
 use reference::{card_read, card_write, check, Accepted, Book, Refusal};
 
-/// Room for some rows, all bytes and numbers 0.
-fn room_for(n: usize) -> Book {
-    Book {
-        ids: vec![0; n],
-        lengths: vec![0; n],
-        store: vec![0; 64 * n],
-        received: vec![0; n],
-        sent: vec![0; n],
-        rows: 0,
-    }
-}
-
 #[test]
 fn example_1_card_of_b() {
     let mut room = [0; 34];
     assert_eq!(card_write(&book_b(), &mut room), Ok(34));
     assert_eq!(room, CARD_B);
 
-    let mut read = room_for(1);
+    let mut read = Book::with_room(1);
     assert_eq!(card_read(&CARD_B, &mut read), Ok(1));
     read.rows = 1;
     assert_eq!(read, book_b());
@@ -33,9 +21,9 @@ fn example_1_card_of_b() {
 
 #[test]
 fn example_2_empty_card() {
-    assert_eq!(card_read(&CARD_EMPTY, &mut room_for(0)), Ok(0));
+    assert_eq!(card_read(&CARD_EMPTY, &mut Book::with_room(0)), Ok(0));
     let longer = [&CARD_EMPTY[..], &[0]].concat();
-    let answer = card_read(&longer, &mut room_for(0));
+    let answer = card_read(&longer, &mut Book::with_room(0));
     assert_eq!(answer, Err(Refusal::MalformedCard));
 }
 

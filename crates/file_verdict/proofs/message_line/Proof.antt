@@ -1,5 +1,5 @@
 -- `file_verdict::message_line` meets its contract: the message may not be judged, or it is handed on to the check (proofs/Stages.antt).
-use mathlib.Core.Path.{sym}
+use mathlib.Core.Path.{refl, sym, _∙_}
 use lib.Seq.{length-take-le}
 use Rattle.key_book.specs.Book.{Book, bookOf}
 use Rattle.file_verdict.proofs.Stages.{message-none, message-checked, counter-stored}
@@ -20,24 +20,15 @@ slice-aggregate-check c =
     let w = c .before .before .before in
     sym (length-take-le _ _ (rw (w .message .given .1) at (w .before .before .within-limit .ensures) .0))
 
--- the message's size is known at w, and its verdict at d
+-- the message's verdict is known at d, and its size at w
 returns-2 : tie.Need-returns-2
 returns-2 c =
-    let d = c .before .before .before .before .before in
+    let d = c .before .before .before in
     let w = d .before .before .before .before in
     let s = w .before .before .before .before .before .before .before .before .before in
     let j = rw (w .message .given .1) at (w .before .before .within-limit .ensures) .1 in
     let e = d .check .ensures in
-    (message-checked (lent s) _ j (c .before .verdict .given .1) (e .0), counter-stored (lent s) _ j (e .1))
-
-returns-3 : tie.Need-returns-3
-returns-3 c =
-    let d = c .before .before .before .before .before in
-    let w = d .before .before .before .before in
-    let s = w .before .before .before .before .before .before .before .before .before in
-    let j = rw (w .message .given .1) at (w .before .before .within-limit .ensures) .1 in
-    let e = d .check .ensures in
-    (message-checked (lent s) _ j (c .before .verdict2 .given .1) (e .0), counter-stored (lent s) _ j (e .1))
+    (c .line-of .ensures ∙ message-checked (lent s) _ j refl (e .0), counter-stored (lent s) _ j (e .1))
 
 pub message-line-spec : {M : Type 1} → statement M
 message-line-spec =
@@ -49,9 +40,6 @@ message-line-spec =
     returns
     slice-aggregate-check
     (λ c κs. search needs)
+    (λ c κs. search needs)
     (λ c. search needs)
-    (λ c. search needs)
-    (λ c. search needs)
-    returns-2
-    (λ c. search needs)
-    returns-3)
+    returns-2)

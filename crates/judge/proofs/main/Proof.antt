@@ -1,6 +1,6 @@
--- `judge::main` is safe: the line lies within the room that was lent for it (proofs/Lines.antt).
+-- `judge::main` is safe: the line lies within the room that was lent for it (verdict_line, proofs/Lines.antt).
 use native.Mathlib.Omega.{arith}
-use Rattle.judge.proofs.Lines.{line-within, line-taken}
+use Rattle.verdict_line.proofs.Lines.{line-within, line-taken}
 use borrow.Author.Needs.{needs}
 use Rattle.judge.proofs.main.Statement.{statement}
 use Rattle.judge.proofs.main.Tie as tie
@@ -17,7 +17,14 @@ main-spec =
     (tie.spec
     (λ c. search needs)
     (λ c. search needs)
+    (λ c. search needs)
+    (λ c. search needs)
+    (λ c. search needs)
     (λ c κs. search needs)
+    (λ c. search needs)
+    (λ c. search needs)
+    (λ c. search needs)
+    (λ c. search needs)
     (λ c. search needs)
     (λ c κs. search needs)
     (λ c. search needs)

@@ -15,8 +15,18 @@ returns-2 c =
 
 returns-3 : tie.Need-returns-3
 returns-3 c =
-    let a = c .before .before .before .before .before .enum-told .given .1 in
-    rw a (record { put = c .before .before .put .ensures; most = omega arith })
+    let d = c .before .before in
+    rw (d .before .before .before .enum-told .given .1) (record { put = d .put .ensures; most = omega arith })
+
+returns-4 : tie.Need-returns-4
+returns-4 c =
+    let d = c .before .before in
+    rw (d .before .before .before .enum-told2 .given .1) (record { put = d .put2 .ensures; most = omega arith })
+
+returns-5 : tie.Need-returns-5
+returns-5 c =
+    let d = c .before .before in
+    rw (d .before .before .before .enum-told3 .given .1) (record { put = d .put3 .ensures; most = omega arith })
 
 pub put-line-spec : {M : Type 1} → statement M
 put-line-spec =
@@ -31,8 +41,18 @@ put-line-spec =
     (λ c. search needs)
     (λ c κs. search needs)
     (λ c. search needs)
+    (λ c. search needs)
+    (λ c κs. search needs)
+    (λ c. search needs)
+    (λ c. search needs)
+    (λ c κs. search needs)
+    (λ c. search needs)
     returns
     (λ c. search needs)
     returns-2
     (λ c. search needs)
-    returns-3)
+    returns-3
+    (λ c. search needs)
+    returns-4
+    (λ c. search needs)
+    returns-5)

@@ -23,6 +23,12 @@ pub fn any(random: &mut Random) -> Vec<u8> {
     }
 }
 
+/// A card with a row too many and nothing else wrong.
+pub fn of_65_rows() -> Vec<u8> {
+    let rows: Vec<Row> = (0..65).map(|id| Row::new(id, &[1])).collect();
+    card_of_rows(&rows)
+}
+
 /// Rows in order, none to 64 of them.
 pub fn some_rows(random: &mut Random) -> Vec<Row> {
     let count = match random.below(10) {

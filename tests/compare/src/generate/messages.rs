@@ -4,6 +4,7 @@
 use super::relays;
 use crate::random::Random;
 use reference::auth::sign;
+use reference::examples::accepted_by_b;
 use reference::message::{
     full_form, places, shape, AUTHENTICATION, COOKIE, COOKIE_AT, DELAYED_HMAC_MD5, END,
     FULL_LENGTH, MESSAGE_LEAST, MESSAGE_MOST, OPTIONS_AT, PAD, RELAY_AGENT, REQUEST_LENGTH,
@@ -34,6 +35,14 @@ pub fn any(random: &mut Random, book: &Book) -> Vec<u8> {
 /// received one, if there is such a counter, and the right MAC.
 pub fn well_formed(random: &mut Random, book: &Book) -> Vec<u8> {
     with_faults(random, book, &[])
+}
+
+/// Bench example 9's message signed anew.
+pub fn signed(key: &[u8], id: u32, counter: u64) -> Vec<u8> {
+    let mut message = accepted_by_b();
+    let found = full_form(&message).expect("in full form");
+    sign(&mut message, &found, key, id, counter);
+    message
 }
 
 /// Random bytes of random length. Most have the cookie, and option bytes that are often codes and

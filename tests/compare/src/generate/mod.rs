@@ -1,7 +1,9 @@
-//! Seeded inputs: key books, messages and cards, sound and spoiled.
+//! Seeded inputs: key books, messages, cards, frames and captures, sound and spoiled.
 
 pub mod books;
+pub mod captures;
 pub mod cards;
+pub mod frames;
 pub mod messages;
 pub mod relays;
 #[cfg(test)]

@@ -20,6 +20,14 @@ pub fn changed(random: &mut Random, message: &[u8]) -> Vec<u8> {
     now
 }
 
+/// The message as it was, or after such changes.
+pub fn maybe_changed(random: &mut Random, message: &[u8]) -> Vec<u8> {
+    match random.below(2) {
+        0 => message.to_vec(),
+        _ => changed(random, message),
+    }
+}
+
 /// The message after a change with any hops and giaddr, or as it was where that isn't permitted.
 fn after(random: &mut Random, message: Vec<u8>, option_82: Option82) -> Vec<u8> {
     let giaddr = random.u32().to_be_bytes();

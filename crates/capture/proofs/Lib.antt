@@ -1,0 +1,6 @@
+pub mod Computed
+pub mod Headers
+pub mod Records
+pub mod Frames
+mod Parts
+pub mod Payloads

@@ -1,0 +1,5 @@
+pub mod Layout
+pub mod Records
+pub mod Frame
+pub mod Laws
+pub mod Examples

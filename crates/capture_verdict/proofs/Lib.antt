@@ -1,0 +1,5 @@
+mod Judged
+pub mod Answered
+pub mod Stepped
+pub mod Says
+pub mod Computed

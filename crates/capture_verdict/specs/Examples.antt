@@ -1,0 +1,44 @@
+-- A recording of one message, judged by Book B (docs/RULES.md, 'Bench examples'): bench example 9 put right, as it is in a frame; before it a record
+-- without a payload, behind it the same frame again, and then a record whose frame is not all there. The proof is proofs/Computed.antt.
+use Prim.Native.Nat.{ℕ, _+_}
+use mathlib.Core.Path.{_≡_}
+use mathlib.Core.List.{List, [], _∷_, _++_}
+use mathlib.Core.Option.{Option, none, some}
+use lib.ListN.{length}
+use Rattle.octets.specs.Bytes.{zeros}
+use Rattle.octets.specs.Numbers.{le, be}
+use Rattle.refusal.specs.declared.Refusal.the-variants.{Replay}
+use Rattle.card_laws.specs.Examples.{cardB}
+use Rattle.verdict_line.specs.declared.Line.the-variants.{Accepted, Refused, Unreadable, Skipped, Cut}
+use Rattle.verdict_line.specs.Line.{lineOf, numberedLine}
+use Rattle.file_verdict.specs.Files.{emptyBook}
+use Rattle.file_verdict.specs.Example9.{messageWith}
+use Rattle.capture_verdict.specs.Lines.{linesToFailure, linesOfFiles}
+
+-- a frame from the server's port to the client's, with this payload
+abbrev pub frameOf : List ℕ → List ℕ
+frameOf payload =
+    zeros 12 ++ (8 ∷ 0 ∷ [])
+    ++ (0x45 ∷ 0 ∷ be 2 (28 + length payload) ++ (0 ∷ 0 ∷ 0x40 ∷ 0 ∷ 64 ∷ 17 ∷ zeros 10))
+    ++ (0 ∷ 67 ∷ 0 ∷ 68 ∷ be 2 (8 + length payload) ++ zeros 2)
+    ++ payload
+
+-- a record whose frame was captured whole
+abbrev pub recordOf : List ℕ → List ℕ
+recordOf frame = zeros 8 ++ le 4 (length frame) ++ le 4 (length frame) ++ frame
+
+abbrev pub recording : List ℕ
+recording =
+    le 4 0xa1b2_c3d4 ++ zeros 16 ++ le 4 1
+    ++ recordOf (zeros 60)
+    ++ recordOf (frameOf (messageWith 11 105))
+    ++ recordOf (frameOf (messageWith 11 105))
+    ++ zeros 15
+
+pub record RecordingExample : Type 0 where
+  pub by-book-B : linesOfFiles (some cardB) (some recording)
+      ≡ numberedLine 1 Skipped ∷ numberedLine 2 (Accepted 0 11) ∷ numberedLine 3 (Refused Replay) ∷ lineOf Cut ∷ []
+  pub no-record : linesOfFiles (some cardB) (some (le 4 0xa1b2_c3d4 ++ zeros 16 ++ le 4 1)) ≡ []
+  pub read-failed : linesToFailure emptyBook (le 4 0xa1b2_c3d4 ++ zeros 16 ++ le 4 1) ≡ lineOf Cut ∷ []
+  pub no-capture : linesOfFiles (some cardB) none ≡ lineOf Unreadable ∷ []
+  pub bad-card : (capture : Option (List ℕ)) → linesOfFiles (some (0 ∷ [])) capture ≡ lineOf Unreadable ∷ []

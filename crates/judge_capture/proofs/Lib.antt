@@ -1,0 +1,5 @@
+mod Moves
+mod Windows
+mod Rooms
+mod Taken
+mod Runs
