@@ -30,14 +30,14 @@ loop-less : tie.Need-loop-less Inv-loop μ-loop
 loop-less c =
     let d = c .before .before .before .before .before in
     let f = d .before .before .before .loop .inv in
-    omega (arith, turn-more (d .read-more .ensures .1 .1) (f .long) (omega arith) (c .before .progress2 .given .1))
+    omega (arith, turn-more (d .read-more .ensures .1 .1) (f .long) (c .before .progress2 .given .1))
 
 loop-again : tie.Need-loop-again Inv-loop μ-loop
 loop-again c =
     let d = c .before .before .before .before .before in
     let f = d .before .before .before .loop .inv in
     let e = d .read-more .ensures in
-    let t = turn-more (e .1 .1) (f .long) (omega arith) (c .before .progress2 .given .1) in
+    let t = turn-more (e .1 .1) (f .long) (c .before .progress2 .given .1) in
     filling-read f _ _ (e .0) (e .1 .0) (omega arith) (t .1)
 
 same-length-2 : tie.Need-same-length-2 Inv-loop μ-loop
