@@ -1,6 +1,6 @@
 -- The loop over the records: what each turn keeps (`Looping`), and that a turn takes the next record of the file (capture, proofs/Records.antt) and
 -- leaves the book as capture_verdict has it.
-use Prim.Native.Nat.{ℕ, _+_, _-_, _≤_}
+use Prim.Native.Nat.{ℕ, _+_, _≤_}
 use mathlib.Core.Path.{_≡_, refl, sym, ap, _∙_}
 use mathlib.Core.List.{List, [], _∷_, _++_, append-assoc}
 use mathlib.Core.Option.{some}
@@ -124,13 +124,13 @@ pub record Looping (order : Order) (b : Book) (first : List ℕ) (room-size out-
 pub recorded : {order : Order} {b : Book} {room received : List ℕ} {start held : ℕ} → CaptureThere room order start held
     → Judged order b (window room start held) received → Recorded b received
 recorded {order} {b} {room} {received} {start} {held} c j =
-    let header = window room (start - fileHeaderSize) start in
+    let header = window room 0 fileHeaderSize in
     let first = window room start held in
     let read = j .so-far .read in
     let o = c .ordered in
     let w = c .within in
-    let f = c .header-fits in
-    let size : length header ≡ fileHeaderSize = let l = window-size room (start - fileHeaderSize) start (omega arith) (omega arith) in omega arith in
+    let f = c .behind-header in
+    let size : length header ≡ fileHeaderSize = window-size room 0 fileHeaderSize (omega arith) (omega arith) in
     record {
       front = header ++ (first ++ read);
       order = order;

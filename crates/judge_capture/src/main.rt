@@ -10,7 +10,7 @@ ghost use Rattle.key_book.specs.Book.{bookOf};
 ghost use Rattle.verdict_line.specs.Line.{numberedMost, numberedLine, PutAt};
 ghost use Rattle.capture.specs.Layout.{fileHeaderSize, frameMost};
 ghost use Rattle.capture_verdict.specs.Lines.{recordLine, receivedBy};
-ghost use Rattle.judge_capture.specs.Window.{window, endedBy, Gathers, FrameGathers, NextIs, isCut, endLine, RoomMade, RoomFor, OpensAs};
+ghost use Rattle.judge_capture.specs.Window.{window, endedBy, Gathers, AtFront, FrameGathers, NextIs, isCut, endLine, RoomMade, RoomFor, OpensAs};
 ghost use Rattle.judge_capture.specs.Judging.{Judged, RecordingJudged};
 use capture::FILE_HEADER_SIZE;
 use capture::FRAME_MOST;
@@ -97,7 +97,8 @@ fn ended(content: Content) -> Gathered
 fn fill(fd: i32, room: &mut [u8], have: usize, want: usize) -> Gathered
     requires { ⌜ have ≤ length (now room) ⌝ }
     requires { ⌜ want ≤ length (now room) ⌝ }
-    ensures { λ r. ⌜ Gathers (take have (now (room .entry))) want (now (room .exit)) r ⌝ }
+    ensures gathered { λ r. ⌜ Gathers (take have (now (room .entry))) want (now (room .exit)) r ⌝ }
+    ensures front { λ r. ⌜ AtFront r ⌝ }
 {
     let mut size = have;
     while size < want {

@@ -1,6 +1,7 @@
 -- `judge_capture::fill` meets its contract: each turn keeps `Filling` (proofs/Windows.antt), and a read that goes on gives more (program_files,
 -- proofs/Turns.antt). The measure is the room that is left.
 use Prim.Native.Nat.{_-_}
+use mathlib.Core.Path.{refl}
 use native.Mathlib.Omega.{arith}
 use lib.ListN.{length}
 use borrow.Author.Needs.{needs}
@@ -44,7 +45,7 @@ same-length-2 : tie.Need-same-length-2 Inv-loop μ-loop
 same-length-2 c = c .before .loop .inv .long
 
 returns-2 : tie.Need-returns-2 Inv-loop μ-loop
-returns-2 c = filling-window (c .before .loop .inv) _ (omega arith)
+returns-2 c = (filling-window (c .before .loop .inv) _ (omega arith), refl)
 
 pub fill-spec : {M : Type 1} → statement M
 fill-spec =
