@@ -118,6 +118,10 @@ abbrev pub RoomFor : ℕ → Waiting → Type 0
 RoomFor room (Waits left) = left + numberedMost ≤ room
 RoomFor room Broken = Unit {0}
 
+abbrev pub WaitsWithin : ℕ → Waiting → Type 0
+WaitsWithin room (Waits size) = size ≤ room
+WaitsWithin room Broken = Unit {0}
+
 -- a header of this order stands at the room's front, and the window behind it
 pub record CaptureThere (room : List ℕ) (order : Order) (from have : ℕ) : Type 0 where
   pub behind-header : from ≡ fileHeaderSize
