@@ -24,6 +24,7 @@ unfolding linesToFailure
 failure-says = record {
   behind-header = λ b front records e. ap (λ (r : Option Records). linesIn b (cutAfter r)) e;
   within-header = λ b front h. ap (λ (r : Option Records). linesIn b (cutAfter r)) (records-say .short-header front h);
+  other-header = λ b header rest h e. ap (λ (r : Option Records). linesIn b (cutAfter r)) (records-say .other-header header rest h e);
 }
 
 pub lines-say : LinesSay

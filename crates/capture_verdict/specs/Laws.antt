@@ -1,6 +1,6 @@
 -- What is proved of the lines of a recording (docs/RULES.md, 'A recording'), each as a closed statement: they are the answers of a run of demand 3;
--- record by record they come to the lines of the whole; and what is written for any two files. The proofs are in proofs/Answered.antt, Stepped.antt and
--- Says.antt.
+-- record by record they come to the lines of the whole; what is written where a read fails; and for any two files. The proofs are in
+-- proofs/Answered.antt, Stepped.antt and Says.antt.
 use Prim.Native.Nat.{ℕ, suc, _≤_, _<_}
 use mathlib.Core.Path.{_≡_}
 use mathlib.Core.Bool.{cond}
@@ -83,6 +83,8 @@ pub record FailureSays : Type 0 where
   pub behind-header : (b : Book) (front : List ℕ) (records : Records) → recordsOf front ≡ some records
       → linesToFailure b front ≡ numbered 1 (recordLines b (records .whole)) ++ (lineOf Cut ∷ [])
   pub within-header : (b : Book) (front : List ℕ) → length front < fileHeaderSize → linesToFailure b front ≡ lineOf Unreadable ∷ []
+  pub other-header : (b : Book) (header rest : List ℕ) → length header ≡ fileHeaderSize → fileHeaderOf header ≡ Other
+      → linesToFailure b (header ++ rest) ≡ lineOf Unreadable ∷ []
 
 -- ---- any two files
 

@@ -75,11 +75,12 @@ linesIn b (some records) = linesFor b 1 records
 unfoldable pub linesOf : Book → List ℕ → List (List ℕ)
 linesOf b capture = linesIn b (recordsOf capture)
 
--- what is written where a read of the capture failed behind these bytes
+-- the same records, cut behind the last
 abbrev pub cutAfter : Option Records → Option Records
 cutAfter none = none
 cutAfter (some records) = some (record { whole = records .whole; cut = true })
 
+-- what is written where a read of the capture failed behind these bytes
 unfoldable pub linesToFailure : Book → List ℕ → List (List ℕ)
 linesToFailure b front = linesIn b (cutAfter (recordsOf front))
 

@@ -7,7 +7,7 @@ use borrow.Author.Tests.{le-leb, lt-leb, leb-true, ltb-true, ne-eqb, eqb-false}
 use lib.Dec.{T, leb, eqb}
 use lib.IntN.{ℤ, pos, negsuc, natAbs}
 use lib.Signed.{ltZ, nonNeg}
-use Rattle.file_verdict.specs.Files.{afterRead, EndSeen}
+use Rattle.file_verdict.specs.Files.{afterRead}
 use Rattle.file_verdict.specs.declared.Content.the-variants.{Unreadable, Size}
 use Rattle.file_verdict.specs.declared.Progress.{Progress}
 use Rattle.file_verdict.specs.declared.Progress.the-variants.{Ended, More}
@@ -38,40 +38,22 @@ module _ (have room : ℕ) where
   read-too-much (pos n) t p h = rw (ne-eqb n 0 (λ e. omega arith), lt-leb (have + n) room h)
   read-too-much (negsuc n) t p h = refl
 
--- one turn of a loop that reads, where there was room left: what has ended lies within the room, and what goes on has more, and no more than the room
+-- one turn of a loop that reads: a file that has ended has as many bytes as were read before, and what goes on has more, and no more than the room
 abbrev pub ReadTurn : ℕ → ℕ → Progress → Type 0
-ReadTurn have room (Ended content) = EndSeen room content
+ReadTurn have room (Ended Unreadable) = Unit {0}
+ReadTurn have room (Ended (Size n)) = n ≡ have
 ReadTurn have room (More n) = (have < n) × (n ≤ room)
 
-pub read-turn : (have room : ℕ) (got : ℤ) → have < room → ReadTurn have room (afterRead have room got)
+pub read-turn : (have room : ℕ) (got : ℤ) → ReadTurn have room (afterRead have room got)
 unfolding afterRead
-read-turn have room (negsuc k) h = tt
-read-turn have room (pos n) h = on (eqb n 0) refl (leb (have + n) room) refl
+read-turn have room (negsuc k) = tt
+read-turn have room (pos n) = on (eqb n 0) refl (leb (have + n) room) refl
   where
     on : (t : Bool) → eqb n 0 ≡ t → (u : Bool) → leb (have + n) room ≡ u
         → ReadTurn have room (cond t (Ended (Size have)) (cond u (More (have + n)) (Ended Unreadable)))
-    on true e u f = h
+    on true e u f = refl
     on false e false f = tt
     on false e true f =
         let z = eqb-false n 0 e in
         let l = leb-true (have + n) room f in
         (omega arith, l)
-
--- a file that has ended has as many bytes as were read
-abbrev EndsAt : ℕ → Progress → Type 0
-EndsAt have (Ended Unreadable) = Unit {0}
-EndsAt have (Ended (Size n)) = n ≡ have
-EndsAt have (More n) = Unit {0}
-
-ends-at : (have room : ℕ) (got : ℤ) → EndsAt have (afterRead have room got)
-unfolding afterRead
-ends-at have room (negsuc k) = tt
-ends-at have room (pos n) = on (eqb n 0) (leb (have + n) room)
-  where
-    on : (t u : Bool) → EndsAt have (cond t (Ended (Size have)) (cond u (More (have + n)) (Ended Unreadable)))
-    on true u = refl
-    on false true = tt
-    on false false = tt
-
-pub ended-size : (have room : ℕ) (got : ℤ) {n : ℕ} → afterRead have room got ≡ Ended (Size n) → n ≡ have
-ended-size have room got e = subst (EndsAt have) e (ends-at have room got)

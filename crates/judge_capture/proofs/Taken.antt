@@ -74,10 +74,10 @@ module _ {old room : List ℕ} {at behind end : ℕ} (g : Grown old room at end)
   bytes-more : (more : List ℕ) → old ++ (g .read ++ more) ≡ header ++ (rest ++ more)
   bytes-more more = sym (append-assoc old (g .read) more) ∙ ap (λ (s : List ℕ). s ++ more) bytes ∙ append-assoc header rest more
 
-  pub capture-there : {order : Order} → behind - at ≡ fileHeaderSize → fileHeaderOf header ≡ Ethernet order → CaptureThere room order behind end
-  capture-there z e =
-      let n : behind - fileHeaderSize ≡ at = omega arith in
-      record { header-fits = omega arith; ordered = w; within = g .within; header-says = rw n e }
+  pub capture-there : {order : Order} → at ≡ 0 → behind - at ≡ fileHeaderSize → fileHeaderOf header ≡ Ethernet order → CaptureThere room order behind end
+  capture-there f z e =
+      let n : behind ≡ fileHeaderSize = omega arith in
+      record { behind-header = n; ordered = w; within = g .within; header-says = rw (f, n) at e }
 
   module _ (order : Order) (z : behind - at ≡ recordHeaderSize) where
     pub header-cut : recordHeaderOf order header ≡ HeaderCut → CutThere order old

@@ -11,7 +11,7 @@ use Rattle.file_verdict.specs.declared.Progress.{Progress}
 use Rattle.file_verdict.specs.declared.Progress.the-variants.{Ended}
 use Rattle.program_files.specs.Reads.{ReadMeans}
 use Rattle.program_files.proofs.Turns.{ended-at}
-use Rattle.judge_capture.specs.Window.{window, Grown, endedBy, Gathers}
+use Rattle.judge_capture.specs.Window.{window, Grown, endedBy, Gathers, AtFront}
 use Rattle.judge_capture.specs.declared.Gathered.the-variants.{Window}
 
 -- nothing was read
@@ -70,9 +70,9 @@ module _ {old : List ℕ} {have : ℕ} {room : List ℕ} {size : ℕ} (f : Filli
   filling-window want h = (filling-grown, omega arith)
 
   pub filling-ended : (want : ℕ) (content : Content) {k : ℕ} {progress : Progress} → size < want → ReadMeans size k progress → progress ≡ Ended content
-      → Gathers (take have old) want room (endedBy content)
+      → Gathers (take have old) want room (endedBy content) × AtFront (endedBy content)
   filling-ended want Unreadable h m e =
       let s = f .started in
       let w = f .within in
-      omega (arith, length-take-le have old (omega arith))
-  filling-ended want (Size n) h m e = let z = ended-at m e in rw z (filling-grown, h)
+      (omega (arith, length-take-le have old (omega arith)), tt)
+  filling-ended want (Size n) h m e = let z = ended-at m e in (rw z (filling-grown, h), tt)

@@ -1,13 +1,20 @@
 -- How far the judging of a recording is: which records have been judged, what is left of the bytes that were read, and the received counters.
-use Prim.Native.Nat.{ℕ}
+use Prim.Native.Nat.{ℕ, _+_, _-_, _^_, _≤_}
 use mathlib.Core.Path.{_≡_}
 use mathlib.Core.Logic.{_⊎_}
-use mathlib.Core.List.{List, _++_}
+use mathlib.Core.Bool.{cond}
+use mathlib.Core.List.{List, [], _∷_, _++_}
 use mathlib.Core.Option.{some}
+use lib.Dec.{leb}
+use lib.ListN.{length, take}
 use Rattle.key_book.specs.Book.{Book}
+use Rattle.verdict_line.specs.declared.Line.the-variants.{Cut}
+use Rattle.verdict_line.specs.Line.{numberedMost, lineOf}
 use Rattle.capture.specs.declared.Order.{Order}
 use Rattle.capture.specs.Records.{Record, inFront, recordsFrom, recordsOf}
-use Rattle.capture_verdict.specs.Lines.{bookAtEnd}
+use Rattle.capture_verdict.specs.Lines.{recordLines, bookAtEnd, numbered}
+use Rattle.judge_capture.specs.declared.Waiting.{Waiting}
+use Rattle.judge_capture.specs.declared.Waiting.the-variants.{Size, Broken}
 
 -- From the first bytes behind the file's header: whatever the file has behind those that were read, its records are these and then those of the bytes
 -- that are left.
@@ -15,14 +22,45 @@ pub record Judging (order : Order) (first : List ℕ) (records : List Record) (l
   pub read : List ℕ
   pub goes-on : (rest : List ℕ) → recordsFrom order (first ++ (read ++ rest)) ≡ inFront records (recordsFrom order (left ++ rest))
 
--- Where it ended, for whatever reason (the file's end, a cut, a read or a write that failed): the counters are those that these records leave.
+-- These records have been judged: the counters are those that they leave.
 pub record Judged (order : Order) (b : Book) (first received : List ℕ) : Type 0 where
   pub records : List Record
   pub left : List ℕ
   pub so-far : Judging order first records left
   pub counters : received ≡ bookAtEnd b records .received
 
--- The same of the whole file, from its first byte.
+-- ---- the lines
+
+-- the bytes that wait behind one line more, in a room of so many: all are written where there may be no room for another
+abbrev pub afterLine : ℕ → List ℕ → List ℕ → List ℕ
+afterLine room waiting line = cond (leb (length (waiting ++ line) + numberedMost) room) (waiting ++ line) []
+
+abbrev pub afterLines : ℕ → List ℕ → List (List ℕ) → List ℕ
+afterLines room waiting [] = waiting
+afterLines room waiting (line ∷ lines) = afterLines room (afterLine room waiting line) lines
+
+-- what is written behind the last line, by the bytes that are left: nothing at the file's end; `cut` where they have no whole record; and no line has a
+-- number above 2^64 - 1
+pub data Last (order : Order) (left : List ℕ) (number : ℕ) : List ℕ → Type 0 where
+  file-ends : left ≡ [] → Last order left number []
+  file-cut : (read : List ℕ) → recordsFrom order (left ++ read) .whole ≡ [] → Last order left number (lineOf Cut)
+  no-number : number ≡ 2 ^ 64 - 1 → Last order left number []
+
+-- the judging ended, and so many bytes of the room wait to be written: what the lines of those records leave waiting, and the last
+pub record Waited (order : Order) (b : Book) (first received out : List ℕ) (size : ℕ) : Type 0 where
+  pub judged : Judged order b first received
+  pub within : size ≤ length out
+  pub end : List ℕ
+  pub last : Last order (judged .left) (length (judged .records)) end
+  pub text : take size out ≡ afterLines (length out) [] (numbered 1 (recordLines b (judged .records))) ++ end
+
+abbrev pub LinesWait : Order → Book → List ℕ → List ℕ → List ℕ → Waiting → Type 0
+LinesWait order b first received out (Size size) = Waited order b first received out size
+LinesWait order b first received out Broken = Unit {0}
+
+-- ---- the whole file
+
+-- The records that were judged, from the file's first byte on.
 pub record Recorded (b : Book) (received : List ℕ) : Type 0 where
   pub front : List ℕ
   pub order : Order

@@ -45,6 +45,12 @@ Gathers old want room (Window from have) = Grown old room from have × (want ≤
 Gathers old want room (Ended left) = Grown old room 0 left × (left < want)
 Gathers old want room Failed = length old < want
 
+-- a window at the room's front
+abbrev pub AtFront : Gathered → Type 0
+AtFront (Window from have) = from ≡ 0
+AtFront (Ended left) = Unit {0}
+AtFront Failed = Unit {0}
+
 -- a frame of so many bytes at the front of the window, and that length handed on
 pub record FrameThere (old room : List ℕ) (captured original at end whole have : ℕ) : Type 0 where
   pub grown : Grown old room at have
@@ -105,19 +111,23 @@ endLine next = cond (isCut next) (lineOf CutLine) []
 -- the lines that wait have so many bytes, or none where there may have been no room for one more
 abbrev pub RoomMade : ℕ → ℕ → Waiting → Type 0
 RoomMade size room (Waits left) = left ≡ cond (leb (size + numberedMost) room) size 0
-RoomMade size room Broken = Unit {0}
+RoomMade size room Broken = room < size + numberedMost
 
 -- there is room for one more
 abbrev pub RoomFor : ℕ → Waiting → Type 0
 RoomFor room (Waits left) = left + numberedMost ≤ room
 RoomFor room Broken = Unit {0}
 
--- a header of this order stands in front of the window
+abbrev pub WaitsWithin : ℕ → Waiting → Type 0
+WaitsWithin room (Waits size) = size ≤ room
+WaitsWithin room Broken = Unit {0}
+
+-- a header of this order stands at the room's front, and the window behind it
 pub record CaptureThere (room : List ℕ) (order : Order) (from have : ℕ) : Type 0 where
-  pub header-fits : fileHeaderSize ≤ from
+  pub behind-header : from ≡ fileHeaderSize
   pub ordered : from ≤ have
   pub within : have ≤ length room
-  pub header-says : fileHeaderOf (window room (from - fileHeaderSize) from) ≡ Ethernet order
+  pub header-says : fileHeaderOf (window room 0 fileHeaderSize) ≡ Ethernet order
 
 abbrev pub OpensAs : List ℕ → Opening → Type 0
 OpensAs room NoCapture = Unit {0}

@@ -10,8 +10,9 @@ ghost use Rattle.key_book.specs.Book.{bookOf};
 ghost use Rattle.verdict_line.specs.Line.{numberedMost, numberedLine, PutAt};
 ghost use Rattle.capture.specs.Layout.{fileHeaderSize, frameMost};
 ghost use Rattle.capture_verdict.specs.Lines.{recordLine, receivedBy};
-ghost use Rattle.judge_capture.specs.Window.{window, endedBy, Gathers, FrameGathers, NextIs, isCut, endLine, RoomMade, RoomFor, OpensAs};
-ghost use Rattle.judge_capture.specs.Judging.{Judged, RecordingJudged};
+ghost use Rattle.judge_capture.specs.Window.{window, endedBy, Gathers, AtFront, FrameGathers, NextIs, isCut, endLine};
+ghost use Rattle.judge_capture.specs.Window.{RoomMade, RoomFor, WaitsWithin, OpensAs};
+ghost use Rattle.judge_capture.specs.Judging.{Judged, LinesWait, RecordingJudged};
 use capture::FILE_HEADER_SIZE;
 use capture::FRAME_MOST;
 use capture::FileHeader;
@@ -97,7 +98,8 @@ fn ended(content: Content) -> Gathered
 fn fill(fd: i32, room: &mut [u8], have: usize, want: usize) -> Gathered
     requires { ⌜ have ≤ length (now room) ⌝ }
     requires { ⌜ want ≤ length (now room) ⌝ }
-    ensures { λ r. ⌜ Gathers (take have (now (room .entry))) want (now (room .exit)) r ⌝ }
+    ensures gathered { λ r. ⌜ Gathers (take have (now (room .entry))) want (now (room .exit)) r ⌝ }
+    ensures front { λ r. ⌜ AtFront r ⌝ }
 {
     let mut size = have;
     while size < want {
@@ -260,30 +262,36 @@ fn add_end(out: &mut [u8], size: usize, next: Next) -> usize
     size
 }
 
-// Judges the records of a capture, of which the room holds the window behind the file's header. A write that fails ends it, and so would record number
-// 2^64 - 1, which no file has.
+// Judges the records of a capture, of which the room holds the window behind the file's header. The lines that it returns wait to be written. A write
+// that fails ends it, and so would record number 2^64 - 1, which no file has.
 fn judge_records(
     fd: i32,
     order: Order,
     room: &mut [u8],
     start: usize,
     held: usize,
+    out: &mut [u8],
     ids: &[u32],
     lengths: &[u8],
     store: &[u8],
     received: &mut [u64],
     sent: &[u64],
     rows: usize,
-)
+) -> Waiting
     requires { ⌜ start ≤ held ⌝ }
     requires { ⌜ held ≤ length (now room) ⌝ }
     requires { ⌜ frameMost ≤ length (now room) ⌝ }
-    ensures { λ _. ⌜
+    requires { ⌜ numberedMost ≤ length (now out) ⌝ }
+    ensures judged { λ _. ⌜
         (let b = bookOf (now (ids .entry)) (now (lengths .entry)) (now (store .entry)) (now (received .entry)) (now (sent .entry)) rows in
         Judged order b (window (now (room .entry)) start held) (now (received .exit)))
         ⌝ }
+    ensures within { λ r. ⌜ WaitsWithin (length (now (out .exit))) r ⌝ }
+    ensures lines { λ r. ⌜
+        (let b = bookOf (now (ids .entry)) (now (lengths .entry)) (now (store .entry)) (now (received .entry)) (now (sent .entry)) rows in
+        LinesWait order b (window (now (room .entry)) start held) (now (received .exit)) (now (out .exit)) r)
+        ⌝ }
 {
-    let mut out = [0u8; ROOM];
     let mut size: usize = 0;
     let mut number: u64 = 0;
     let mut from = start;
@@ -291,16 +299,14 @@ fn judge_records(
     while number < u64::MAX {
         let next = next_record(fd, order, room, from, have);
         let Next::Record(at, end, original, until) = next else {
-            let last = add_end(&mut out, size, next);
-            io::write_all(STDOUT_FILENO, &out[..last]);
-            return;
+            return Waiting::Size(add_end(out, size, next));
         };
         number += 1;
         let added = judge_frame(
             &room[at..end],
             original,
             number,
-            &mut out,
+            out,
             size,
             ids,
             lengths,
@@ -309,14 +315,24 @@ fn judge_records(
             sent,
             rows,
         );
-        let waiting = make_room(&out, added);
+        let waiting = make_room(out, added);
         let Waiting::Size(left) = waiting else {
-            return;
+            return Waiting::Broken;
         };
         size = left;
         from = end;
         have = until;
     }
+    Waiting::Size(size)
+}
+
+// Writes the lines that wait.
+fn finish(out: &[u8], waiting: Waiting)
+    requires { ⌜ WaitsWithin (length (now out)) waiting ⌝ }
+{
+    let Waiting::Size(size) = waiting else {
+        return;
+    };
     io::write_all(STDOUT_FILENO, &out[..size]);
 }
 
@@ -364,22 +380,26 @@ fn judge_recording(
     }
     let mut room = [0u8; ROOM];
     let opening = open_capture(fd, &mut room);
-    match opening {
-        Opening::Unreadable => write_unreadable(),
-        Opening::Capture(order, from, have) => judge_records(
-            fd,
-            order,
-            &mut room,
-            from,
-            have,
-            ids,
-            lengths,
-            store,
-            received,
-            sent,
-            rows,
-        ),
-    }
+    let Opening::Capture(order, from, have) = opening else {
+        write_unreadable();
+        return;
+    };
+    let mut out = [0u8; ROOM];
+    let waiting = judge_records(
+        fd,
+        order,
+        &mut room,
+        from,
+        have,
+        &mut out,
+        ids,
+        lengths,
+        store,
+        received,
+        sent,
+        rows,
+    );
+    finish(&out, waiting);
 }
 
 fn main() {

@@ -8,7 +8,7 @@ returns : tie.Need-returns
 returns c = (grown-same _ _ _ (search needs) (search needs), search needs)
 
 returns-2 : tie.Need-returns-2
-returns-2 c = rw (← (c .before .before .before .before .before .before .move-front .ensures .1)) (c .before .before .fill .ensures)
+returns-2 c = rw (← (c .before .before .before .before .before .before .move-front .ensures .1)) (c .before .before .fill .ensures .0)
 
 pub gather-spec : {M : Type 1} → statement M
 gather-spec =

@@ -1,23 +1,22 @@
 -- `judge_capture::judge_records` meets its contract: each turn keeps `Looping` (proofs/Runs.antt). At `n` there is a record, and at `d` it has been judged.
 -- The measure is the records that are left of 2^64 - 1.
 use Prim.Native.Nat.{_-_, _^_}
-use mathlib.Core.Path.{refl, sym}
+use mathlib.Core.Path.{refl}
 use native.Mathlib.Omega.{arith}
 use borrow.Author.Needs.{needs}
 use lib.ListN.{length}
-use lib.Seq.{length-take-le}
 use Rattle.key_book.specs.Book.{bookOf}
 use Rattle.judge_capture.specs.Window.{window}
-use Rattle.judge_capture.proofs.Runs.{progress-start, progress-turn, judged, Looping}
+use Rattle.judge_capture.proofs.Runs.{progress-start, progress-turn, judged, Looping, no-record, ended-by, ended-numbers}
 use Rattle.judge_capture.proofs.judge_records.Statement.{statement}
 use Rattle.judge_capture.proofs.judge_records.Tie as tie
 
 abbrev Inv-loop : tie.InvT-loop
-Inv-loop fd order room₀ start held ids lengths store received₀ sent rows out₀ size₀ number₀ from₀ have₀ room received out size number from have =
+Inv-loop fd order room₀ start held out₀ ids lengths store received₀ sent rows size₀ number₀ from₀ have₀ room out received size number from have =
     Looping order (bookOf ids lengths store received₀ sent rows) (window room₀ start held) (length room₀) (length out₀) room received out size number from have
 
 abbrev μ-loop : tie.MeasureT-loop
-μ-loop fd order room₀ start held ids lengths store received₀ sent rows out₀ size₀ number₀ from₀ have₀ room received out size number from have =
+μ-loop fd order room₀ start held out₀ ids lengths store received₀ sent rows size₀ number₀ from₀ have₀ room out received size number from have =
     2 ^ 64 - number
 
 loop-holds : tie.Need-loop-holds Inv-loop μ-loop
@@ -29,7 +28,8 @@ loop-holds c =
       counters-long = refl;
       out-long = refl;
       waiting = search needs;
-      progress = progress-start _ _ _;
+      small = search needs;
+      progress = progress-start _ _ _ _;
     }
 
 next-record-requires : tie.Need-next-record-requires Inv-loop μ-loop
@@ -38,11 +38,14 @@ next-record-requires c κs = let l = c .before .before .loop .inv in (l .ordered
 add-end-requires : tie.Need-add-end-requires Inv-loop μ-loop
 add-end-requires c κs = let l = c .before .before .before .before .before .before .before .loop .inv in omega (arith, l .waiting, l .out-long)
 
-slice-aggregate-write-all : tie.Need-slice-aggregate-write-all Inv-loop μ-loop
-slice-aggregate-write-all c = sym (length-take-le _ _ (c .before .before .add-end .ensures .1))
-
 returns : tie.Need-returns Inv-loop μ-loop
-returns c = judged (c .before .before .before .before .before .before .before .before .before .before .before .loop .inv .progress)
+returns c =
+    let n = c .before .before .before .before in
+    let a = c .before .before .add-end .ensures in
+    let x = n .before .before .before .next-record in
+    let l = n .before .before .before .before .before .before .loop .inv in
+    let w = ended-by l (x .last .1 .1 .0) (x .result) (no-record (x .result) (n .match .keys2)) (x .ensures) (a .0) (a .1) (search needs) in
+    (w .judged, (w .within, w))
 
 sub-judge-frame : tie.Need-sub-judge-frame Inv-loop μ-loop
 sub-judge-frame c =
@@ -64,29 +67,35 @@ part-judge-frame-end c =
 
 judge-frame-requires : tie.Need-judge-frame-requires Inv-loop μ-loop
 judge-frame-requires c κs =
-    let l = c .before .before .before .before .before .before .before .before .before .before .before .before .loop .inv in
+    let n = c .before .before .before .before .before in
+    let l = n .before .before .before .before .before .before .before .loop .inv in
     omega (arith, l .waiting, l .out-long)
 
 make-room-requires : tie.Need-make-room-requires Inv-loop μ-loop
 make-room-requires c κs =
-    let d = c .before .before .before .before in
-    let l = d .before .before .before .before .before .before .before .before .before .before .before .before .before .loop .inv in
-    (omega (arith, l .waiting, l .out-long), d .judge-frame .ensures .1 .0)
+    let d = c .before .before .before .before .before in
+    let n = d .before .before .before .before .before .before in
+    let l = n .before .before .before .before .before .before .before .loop .inv in
+    (omega (arith, l .waiting, l .out-long), search needs)
 
 returns-2 : tie.Need-returns-2 Inv-loop μ-loop
 returns-2 c =
-    let d = c .before .before .before .before .before .before .before in
-    let n = d .before .before .before .before .before .before in
-    let t = rw (n .next .given .1) at (n .before .before .before .before .next-record .ensures) in
-    judged (progress-turn (n .before .before .before .before .before .before .before .loop .inv .progress) t (d .judge-frame .ensures .1 .1))
-
-loop-again : tie.Need-loop-again Inv-loop μ-loop
-loop-again c =
     let d = c .before .before .before .before .before .before .before .before in
     let n = d .before .before .before .before .before .before in
     let l = n .before .before .before .before .before .before .before .loop .inv in
     let t = rw (n .next .given .1) at (n .before .before .before .before .next-record .ensures) in
-    let w = rw (c .before .waiting .given .1) at (c .before .before .before .make-room .ensures .1) in
+    let j = d .judge-frame .ensures in
+    (judged (progress-turn (l .progress) t (j .0) (j .1 .1) refl (omega (arith, l .waiting, l .out-long)) (j .1 .0) (search needs) refl), (tt, tt))
+
+loop-again : tie.Need-loop-again Inv-loop μ-loop
+loop-again c =
+    let d = c .before .before .before .before .before .before .before .before .before in
+    let n = d .before .before .before .before .before .before in
+    let l = n .before .before .before .before .before .before .before .loop .inv in
+    let t = rw (n .next .given .1) at (n .before .before .before .before .next-record .ensures) in
+    let j = d .judge-frame .ensures in
+    let m = rw (c .before .waiting .given .1) at (c .before .before .before .make-room .ensures) in
+    let w = m .1 in
     record {
       ordered = t .frame-within;
       within = t .within;
@@ -94,17 +103,12 @@ loop-again c =
       counters-long = search needs;
       out-long = search needs;
       waiting = search needs;
-      progress = progress-turn (l .progress) t (d .judge-frame .ensures .1 .1);
+      small = search needs;
+      progress = progress-turn (l .progress) t (j .0) (j .1 .1) refl (omega (arith, l .waiting, l .out-long)) (j .1 .0) (search needs) (m .0);
     }
 
-array-share-prefix-out-2 : tie.Need-array-share-prefix-out-2 Inv-loop μ-loop
-array-share-prefix-out-2 c = let l = c .before .loop .inv in omega (arith, l .waiting, l .out-long)
-
-slice-aggregate-write-all-2 : tie.Need-slice-aggregate-write-all-2 Inv-loop μ-loop
-slice-aggregate-write-all-2 c = let l = c .before .before .loop .inv in sym (length-take-le _ _ (omega (arith, l .waiting, l .out-long)))
-
 returns-3 : tie.Need-returns-3 Inv-loop μ-loop
-returns-3 c = judged (c .before .before .before .loop .inv .progress)
+returns-3 c = let w = ended-numbers (c .before .loop .inv) (omega arith) in (w .judged, (w .within, w))
 
 pub judge-records-spec : {M : Type 1} → statement M
 judge-records-spec =
@@ -115,11 +119,8 @@ judge-records-spec =
     loop-holds
     next-record-requires
     (λ c. search needs)
-    (λ c. search needs)
     add-end-requires
     (λ c. search needs)
-    slice-aggregate-write-all
-    (λ c κs. search needs)
     (λ c. search needs)
     (λ c. search needs)
     returns
@@ -127,10 +128,9 @@ judge-records-spec =
     sub-judge-frame
     part-judge-frame-start
     part-judge-frame-end
-    (λ c. search needs)
     judge-frame-requires
-    (λ c. search needs)
     make-room-requires
+    (λ c. search needs)
     (λ c. search needs)
     (λ c. search needs)
     (λ c. search needs)
@@ -138,9 +138,7 @@ judge-records-spec =
     returns-2
     (λ c. search needs)
     loop-again
-    array-share-prefix-out-2
-    slice-aggregate-write-all-2
-    (λ c κs. search needs)
+    (λ c. search needs)
     (λ c. search needs)
     (λ c. search needs)
     returns-3)

@@ -16,6 +16,9 @@ returns c =
 slice-aggregate-write-all : tie.Need-slice-aggregate-write-all
 slice-aggregate-write-all c = sym (length-take-le _ _ (omega arith))
 
+returns-2 : tie.Need-returns-2
+returns-2 c = (omega arith, search needs)
+
 returns-3 : tie.Need-returns-3
 returns-3 c =
     let a = c .before .before .before .before .before .args in
@@ -24,4 +27,4 @@ returns-3 c =
 pub make-room-spec : {M : Type 1} → statement M
 make-room-spec =
     tie.close
-    (tie.spec (λ c. search needs) returns slice-aggregate-write-all (λ c κs. search needs) (λ c. search needs) returns-3)
+    (tie.spec (λ c. search needs) returns slice-aggregate-write-all (λ c κs. search needs) returns-2 returns-3)

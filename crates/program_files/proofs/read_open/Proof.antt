@@ -19,19 +19,19 @@ returns : tie.Need-returns Inv-loop μ-loop
 returns c =
     let d = c .before .before .before .before .before in
     let room = length (d .before .before .before .before .before .args .room .now) in
-    (turn-ended {room = room} (d .read-more .ensures .1 .1) (search needs) (omega arith) (c .before .progress .given .1), search needs)
+    (turn-ended (d .read-more .ensures .1 .1) {room = room} (search needs) (omega arith) _ (c .before .progress .given .1), search needs)
 
 loop-less : tie.Need-loop-less Inv-loop μ-loop
 loop-less c =
     let d = c .before .before .before .before .before in
     let room = length (d .before .before .before .before .before .args .room .now) in
-    omega (arith, turn-more {room = room} (d .read-more .ensures .1 .1) (search needs) (omega arith) (c .before .progress2 .given .1))
+    omega (arith, turn-more (d .read-more .ensures .1 .1) {room = room} (search needs) (c .before .progress2 .given .1))
 
 loop-again : tie.Need-loop-again Inv-loop μ-loop
 loop-again c =
     let d = c .before .before .before .before .before in
     let room = length (d .before .before .before .before .before .args .room .now) in
-    (turn-more {room = room} (d .read-more .ensures .1 .1) (search needs) (omega arith) (c .before .progress2 .given .1) .1, search needs)
+    (turn-more (d .read-more .ensures .1 .1) {room = room} (search needs) (c .before .progress2 .given .1) .1, search needs)
 
 pub read-open-spec : {M : Type 1} → statement M
 read-open-spec =
