@@ -1,4 +1,5 @@
--- How far the judging of a recording is: which records have been judged, what is left of the bytes that were read, and the received counters.
+-- How far the judging of a recording is: which records have been judged, what is left of the bytes that were read, the received counters, and the lines
+-- that wait to be written.
 use Prim.Native.Nat.{ℕ, _+_, _-_, _^_, _≤_}
 use mathlib.Core.Path.{_≡_}
 use mathlib.Core.Logic.{_⊎_}

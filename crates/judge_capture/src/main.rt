@@ -56,7 +56,7 @@ enum Next {
 
 // The lines that wait to be written.
 enum Waiting {
-    // They have so many bytes, and there is room for one more.
+    // They have so many bytes, from the room's front on.
     Size(usize),
     // A write failed.
     Broken,
