@@ -178,12 +178,13 @@ struct book {
     uint32_t ids[ROWS_MOST];
     uint8_t lengths[ROWS_MOST];
     uint8_t store[ROWS_MOST * SLOT];
+    uint8_t marks[ROWS_MOST];
     uint64_t received[ROWS_MOST];
     uint64_t sent[ROWS_MOST];
     size_t rows;
 };
 
-/* Messages under the last row of a book, sealed with the counters 1 to LOT. */
+/* Messages under the last row of a book, all of whose rows are heard, sealed with the counters 1 to LOT. */
 struct lot {
     struct book book;
     uint8_t messages[LOT][MESSAGE_MOST];
@@ -197,8 +198,9 @@ static uint8_t seal(struct lot *lot, size_t i)
     struct book *b = &lot->book;
     uint64_t counter;
 
-    return rimemagpie_seal(b->ids, b->rows, b->lengths, b->rows, b->store, b->rows * SLOT, b->received, b->rows,
-                           b->sent, b->rows, b->rows, b->ids[b->rows - 1], lot->messages[i], lot->size, &counter);
+    return rimemagpie_seal(b->ids, b->rows, b->lengths, b->rows, b->store, b->rows * SLOT, b->marks, b->rows,
+                           b->received, b->rows, b->sent, b->rows, b->rows, b->ids[b->rows - 1], lot->messages[i],
+                           lot->size, &counter);
 }
 
 static uint8_t check(struct lot *lot, size_t i)
@@ -206,8 +208,8 @@ static uint8_t check(struct lot *lot, size_t i)
     struct book *b = &lot->book;
     uint64_t row, counter;
 
-    return rimemagpie_check(b->ids, b->rows, b->lengths, b->rows, b->store, b->rows * SLOT, b->received, b->rows,
-                            b->sent, b->rows, b->rows, lot->messages[i], lot->size, &row, &counter);
+    return rimemagpie_check(b->ids, b->rows, b->lengths, b->rows, b->store, b->rows * SLOT, b->marks, b->rows,
+                            b->received, b->rows, b->sent, b->rows, b->rows, lot->messages[i], lot->size, &row, &counter);
 }
 
 static void our_seals(void *with)
@@ -300,6 +302,7 @@ static void make_lot(struct lot *lot, size_t rows, size_t size, enum filling fil
     for (size_t k = 0; k < rows; k++) {
         lot->book.ids[k] = (uint32_t)(100 + k);
         lot->book.lengths[k] = KEY_SIZE;
+        lot->book.marks[k] = RIMEMAGPIE_HEARD;
         memcpy(lot->book.store + k * SLOT, key, KEY_SIZE);
     }
     for (size_t i = 0; i < LOT; i++)

@@ -20,6 +20,7 @@ struct book {
     uint32_t ids[1];
     uint8_t lengths[1];
     uint8_t store[SLOT];
+    uint8_t marks[1];
     uint64_t received[1];
     uint64_t sent[1];
 };
@@ -71,8 +72,8 @@ static void write_card(const struct book *b)
     uint8_t card[128];
     uint64_t size;
 
-    if (rimemagpie_card_write(b->ids, 1, b->lengths, 1, b->store, SLOT, b->received, 1, b->sent, 1, 1, card, sizeof card,
-                              &size))
+    if (rimemagpie_card_write(b->ids, 1, b->lengths, 1, b->store, SLOT, b->marks, 1, b->received, 1, b->sent, 1, 1, card,
+                              sizeof card, &size))
         fail("the card is refused");
     put(file, card, (size_t)size);
     close_written(file);
@@ -113,7 +114,7 @@ static void write_recording(struct book *b)
     put_number(file, 1);
     make_frame(frame);
     for (uint32_t i = 0; i < RECORDS; i++) {
-        if (rimemagpie_seal(b->ids, 1, b->lengths, 1, b->store, SLOT, b->received, 1, b->sent, 1, 1, ID,
+        if (rimemagpie_seal(b->ids, 1, b->lengths, 1, b->store, SLOT, b->marks, 1, b->received, 1, b->sent, 1, 1, ID,
                             frame + HEADERS_SIZE, MESSAGE_SIZE, &counter))
             fail("a message is refused");
         put_number(file, 1700000000 + i / 100);
@@ -127,7 +128,7 @@ static void write_recording(struct book *b)
 
 int main(void)
 {
-    struct book book = {{ID}, {16}, "sixteen key byte", {0}, {0}};
+    struct book book = {{ID}, {16}, "sixteen key byte", {RIMEMAGPIE_HEARD}, {0}, {0}};
 
     write_card(&book);
     write_recording(&book);

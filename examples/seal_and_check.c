@@ -3,7 +3,8 @@
  *
  * Build it with:  cc -std=c11 -Iinclude examples/seal_and_check.c target/staticlib/librimemagpie.a -o target/seal_and_check
  *
- * It exits with 0 if the sealed message is accepted, and refused as a replay when it is shown again.
+ * It exits with 0 if the sealed message is accepted, by a row that was not heard before, and refused as a replay when it is
+ * shown again.
  */
 #include "rimemagpie.h"
 
@@ -15,19 +16,21 @@
 #define SLOT 64
 #define SECRET_ID 7
 
-/* A key book with room for one row: the five buffers that every call is lent. */
+/* A key book with room for one row: the six buffers that every call is lent. */
 struct book {
     uint32_t ids[ROWS];
     uint8_t lengths[ROWS];
     uint8_t store[ROWS * SLOT];
+    uint8_t marks[ROWS];
     uint64_t received[ROWS];
     uint64_t sent[ROWS];
 };
 
+/* A new book. Its row is not heard, and both counters are 0. */
 static struct book make_book(void)
 {
     static const uint8_t key[] = {0x6b, 0x65, 0x79, 0x2d, 0x6f, 0x66, 0x2d, 0x37};
-    struct book book = {.ids = {SECRET_ID}, .lengths = {sizeof key}};
+    struct book book = {.ids = {SECRET_ID}, .lengths = {sizeof key}, .marks = {RIMEMAGPIE_NOT_HEARD}};
 
     memcpy(book.store, key, sizeof key);
     return book;
@@ -36,13 +39,15 @@ static struct book make_book(void)
 static uint8_t seal(struct book *book, uint8_t *message, size_t length, uint64_t *counter)
 {
     return rimemagpie_seal(book->ids, ROWS, book->lengths, ROWS, book->store, sizeof book->store,
-                           book->received, ROWS, book->sent, ROWS, ROWS, SECRET_ID, message, length, counter);
+                           book->marks, ROWS, book->received, ROWS, book->sent, ROWS, ROWS, SECRET_ID, message, length,
+                           counter);
 }
 
 static uint8_t check(struct book *book, const uint8_t *message, size_t length, uint64_t *row, uint64_t *counter)
 {
     return rimemagpie_check(book->ids, ROWS, book->lengths, ROWS, book->store, sizeof book->store,
-                            book->received, ROWS, book->sent, ROWS, ROWS, message, length, row, counter);
+                            book->marks, ROWS, book->received, ROWS, book->sent, ROWS, ROWS, message, length, row,
+                            counter);
 }
 
 /* A DHCPACK with an empty option 90 in full form: the header, the cookie, two options and End. */
@@ -92,8 +97,11 @@ int main(void)
 
     length = relay(message, length);
     good &= expect("client checks", check(&client, message, length, &row, &counter), RIMEMAGPIE_DONE);
-    printf("  accepted, row %" PRIu64 " counter %" PRIu64 "\n", row, counter);
-    good &= row == 0 && counter == sealed_counter && client.received[0] == counter;
+    printf("  accepted, row %" PRIu64 " counter %" PRIu64 ", and its mark is now %u\n", row, counter,
+           (unsigned)client.marks[0]);
+    good &= row == 0 && counter == sealed_counter;
+    /* These two the client stores: they are what keeps the message out when it comes again. */
+    good &= client.marks[0] == RIMEMAGPIE_HEARD && client.received[0] == counter;
 
     good &= expect("client checks it again", check(&client, message, length, &row, &counter), RIMEMAGPIE_REPLAY);
     printf("  refused as a replay\n");

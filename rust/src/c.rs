@@ -28,6 +28,8 @@ mod header {
             lengths_len: usize,
             store: *const u8,
             store_len: usize,
+            marks: *mut u8,
+            marks_len: usize,
             received: *mut u64,
             received_len: usize,
             sent: *const u64,
@@ -46,6 +48,8 @@ mod header {
             lengths_len: usize,
             store: *const u8,
             store_len: usize,
+            marks: *const u8,
+            marks_len: usize,
             received: *const u64,
             received_len: usize,
             sent: *const u64,
@@ -64,6 +68,8 @@ mod header {
             lengths_len: usize,
             store: *const u8,
             store_len: usize,
+            marks: *const u8,
+            marks_len: usize,
             received: *const u64,
             received_len: usize,
             sent: *mut u64,
@@ -84,6 +90,8 @@ mod header {
             lengths_len: usize,
             store: *mut u8,
             store_len: usize,
+            marks: *mut u8,
+            marks_len: usize,
             received: *mut u64,
             received_len: usize,
             sent: *mut u64,
@@ -98,6 +106,8 @@ mod header {
             lengths_len: usize,
             store: *const u8,
             store_len: usize,
+            marks: *const u8,
+            marks_len: usize,
             received: *const u64,
             received_len: usize,
             sent: *const u64,
@@ -105,6 +115,22 @@ mod header {
             rows: usize,
             card: *mut u8,
             card_len: usize,
+            size: *mut u64,
+        ) -> u8;
+
+        pub fn rimemagpie_card_to_old(
+            card: *const u8,
+            card_len: usize,
+            room: *mut u8,
+            room_len: usize,
+            size: *mut u64,
+        ) -> u8;
+
+        pub fn rimemagpie_card_to_new(
+            card: *const u8,
+            card_len: usize,
+            room: *mut u8,
+            room_len: usize,
             size: *mut u64,
         ) -> u8;
     }
@@ -134,6 +160,7 @@ pub fn check(
     ids: &[u32],
     lengths: &[u8],
     store: &[u8],
+    marks: &mut [u8],
     received: &mut [u64],
     sent: &[u64],
     rows: usize,
@@ -149,6 +176,8 @@ pub fn check(
             lengths.len(),
             store.as_ptr(),
             store.len(),
+            marks.as_mut_ptr(),
+            marks.len(),
             received.as_mut_ptr(),
             received.len(),
             sent.as_ptr(),
@@ -168,6 +197,7 @@ pub fn key(
     ids: &[u32],
     lengths: &[u8],
     store: &[u8],
+    marks: &[u8],
     received: &[u64],
     sent: &[u64],
     rows: usize,
@@ -183,6 +213,8 @@ pub fn key(
             lengths.len(),
             store.as_ptr(),
             store.len(),
+            marks.as_ptr(),
+            marks.len(),
             received.as_ptr(),
             received.len(),
             sent.as_ptr(),
@@ -202,6 +234,7 @@ pub fn seal(
     ids: &[u32],
     lengths: &[u8],
     store: &[u8],
+    marks: &[u8],
     received: &[u64],
     sent: &mut [u64],
     rows: usize,
@@ -217,6 +250,8 @@ pub fn seal(
             lengths.len(),
             store.as_ptr(),
             store.len(),
+            marks.as_ptr(),
+            marks.len(),
             received.as_ptr(),
             received.len(),
             sent.as_mut_ptr(),
@@ -237,6 +272,7 @@ pub fn card_read(
     ids: &mut [u32],
     lengths: &mut [u8],
     store: &mut [u8],
+    marks: &mut [u8],
     received: &mut [u64],
     sent: &mut [u64],
     rows: &mut u64,
@@ -251,6 +287,8 @@ pub fn card_read(
             lengths.len(),
             store.as_mut_ptr(),
             store.len(),
+            marks.as_mut_ptr(),
+            marks.len(),
             received.as_mut_ptr(),
             received.len(),
             sent.as_mut_ptr(),
@@ -266,6 +304,7 @@ pub fn card_write(
     ids: &[u32],
     lengths: &[u8],
     store: &[u8],
+    marks: &[u8],
     received: &[u64],
     sent: &[u64],
     rows: usize,
@@ -280,6 +319,8 @@ pub fn card_write(
             lengths.len(),
             store.as_ptr(),
             store.len(),
+            marks.as_ptr(),
+            marks.len(),
             received.as_ptr(),
             received.len(),
             sent.as_ptr(),
@@ -287,6 +328,32 @@ pub fn card_write(
             rows,
             card.as_mut_ptr(),
             card.len(),
+            size,
+        )
+    }
+}
+
+/// `rimemagpie_card_to_old`.
+pub fn card_to_old(card: &[u8], room: &mut [u8], size: &mut u64) -> u8 {
+    unsafe {
+        header::rimemagpie_card_to_old(
+            card.as_ptr(),
+            card.len(),
+            room.as_mut_ptr(),
+            room.len(),
+            size,
+        )
+    }
+}
+
+/// `rimemagpie_card_to_new`.
+pub fn card_to_new(card: &[u8], room: &mut [u8], size: &mut u64) -> u8 {
+    unsafe {
+        header::rimemagpie_card_to_new(
+            card.as_ptr(),
+            card.len(),
+            room.as_mut_ptr(),
+            room.len(),
             size,
         )
     }

@@ -2,16 +2,18 @@
 //! it.
 //!
 //! ```
-//! use rimemagpie::{Accepted, Book, Refusal};
+//! use rimemagpie::{card_move, Accepted, Book, Form, Refusal, CARD_MOST, HEARD, NOT_HEARD};
 //!
-//! // A book with room for two rows, one of them in use: id 7 with a key of four bytes.
+//! // A book with room for two rows, one of them in use: id 7 with a key of four bytes. The row is
+//! // new, so it is not heard, and its received counter is 0.
 //! let (mut ids, mut lengths, mut store) = ([7, 0], [4, 0], [0; 128]);
-//! let (mut received, mut sent) = ([0; 2], [0; 2]);
+//! let (mut marks, mut received, mut sent) = ([NOT_HEARD; 2], [0; 2], [0; 2]);
 //! store[..4].copy_from_slice(&[1, 2, 3, 4]);
 //! let mut book = Book {
 //!     ids: &mut ids,
 //!     lengths: &mut lengths,
 //!     store: &mut store,
+//!     marks: &mut marks,
 //!     received: &mut received,
 //!     sent: &mut sent,
 //!     rows: 1,
@@ -24,8 +26,20 @@
 //!
 //! assert_eq!(book.seal(7, &mut message), Ok(1));
 //! assert_eq!(book.key(&message), Ok(&[1, 2, 3, 4][..]));
+//! let (mut card, mut old) = ([0; CARD_MOST], [0; CARD_MOST]);
+//! let size = book.card_write(&mut card)?;
+//! assert_eq!(card_move(&card[..size], Form::Old, &mut old), Err(Refusal::RowNotHeard));
+//!
+//! // Under a row that is not heard any counter is taken, and then only higher ones. Mark and received
+//! // counter are now to be stored.
 //! assert_eq!(book.check(&message), Ok(Accepted { row: 0, counter: 1 }));
+//! assert_eq!((book.marks[0], book.received[0]), (HEARD, 1));
 //! assert_eq!(book.check(&message), Err(Refusal::Replay));
+//!
+//! // Now that the row is heard its card has an old form, without the mark: a byte less.
+//! let size = book.card_write(&mut card)?;
+//! assert_eq!(card_move(&card[..size], Form::Old, &mut old), Ok(size - 1));
+//! # Ok::<(), Refusal>(())
 //! ```
 
 #![deny(unsafe_code)]
@@ -38,8 +52,14 @@ use std::fmt;
 
 pub use refusal::Refusal;
 
-/// The size of the largest card, which is enough room to write any.
-pub const CARD_MOST: usize = 5_638;
+/// The size of the largest card, which is enough room to write or move any.
+pub const CARD_MOST: usize = 5_702;
+
+/// The mark of a row under which nothing was accepted yet: any counter is taken.
+pub const NOT_HEARD: u8 = 0;
+
+/// The mark of a row that takes only a counter above its received one.
+pub const HEARD: u8 = 1;
 
 /// The MD5 digest (RFC 1321) of up to 65,535 bytes.
 pub fn digest(message: &[u8]) -> Result<[u8; 16], Refusal> {
@@ -55,8 +75,31 @@ pub fn hmac(key: &[u8], message: &[u8]) -> Result<[u8; 16], Refusal> {
     Ok(mac)
 }
 
-/// An accepted message: the row of its secret, and its counter, which is now that row's received
-/// one.
+/// The two forms of a card.
+#[derive(Clone, Copy, Debug, PartialEq, Eq)]
+pub enum Form {
+    /// Without marks: every row on it is heard.
+    Old,
+    /// With a mark for each row. It is the form that is written.
+    New,
+}
+
+/// Writes a card's rows, as a card of the wanted form, into the first bytes of the room and returns
+/// its size, [`CARD_MOST`] at the most; later bytes of the room stay as they were. A card that is in
+/// that form already is copied. The new form has a byte a row more than the old one. A card with a row
+/// that is not heard has no old form: [`Refusal::RowNotHeard`], or [`Refusal::NoRoomForCard`] where
+/// the room is below the size that the card would have.
+pub fn card_move(card: &[u8], wanted: Form, room: &mut [u8]) -> Result<usize, Refusal> {
+    let mut size = 0;
+    Refusal::from_number(match wanted {
+        Form::Old => c::card_to_old(card, room, &mut size),
+        Form::New => c::card_to_new(card, room, &mut size),
+    })?;
+    Ok(index(size))
+}
+
+/// An accepted message: the row of its secret, which is now heard, and its counter, which is now
+/// that row's received one.
 #[derive(Clone, Copy, Debug, PartialEq, Eq)]
 pub struct Accepted {
     /// The row in the book.
@@ -67,8 +110,19 @@ pub struct Accepted {
 
 /// A key book in the caller's buffers, each with room for the same n rows (n at most 1,024).
 ///
-/// It is sound when the sizes are so, `rows` is at most n and at most 64, the ids in use ascend
-/// strictly and their key lengths are 1 to 64. Any other book is refused with
+/// A row whose mark is [`HEARD`] takes only a counter above the received one. Under one whose mark is
+/// [`NOT_HEARD`] nothing was accepted yet: it takes any counter, 0 and 2^64 - 1 too, where the MAC is
+/// right, and is then heard. A new row begins not heard, and its received counter is 0. A row read
+/// from a card of the old form is heard, also where nothing ever came under it.
+///
+/// Store the marks with the received counters after every check that accepts: where counter 0 was
+/// accepted, the mark is all that changed. With counters that were kept without marks, lend the mark
+/// [`HEARD`]. A mark that is set back to [`NOT_HEARD`] together with its received counter (where that
+/// is 0 already, the mark alone) lets all earlier messages under that secret in once more.
+///
+/// The book is sound when the sizes are so, `rows` is at most n and at most 64, the ids in use
+/// ascend strictly, their key lengths are 1 to 64, their marks are [`NOT_HEARD`] or [`HEARD`], and the
+/// received counter of each row in use that is not heard is 0. Any other book is refused with
 /// [`Refusal::UnsoundBook`].
 ///
 /// Printed by `{:?}` it shows how large the key store is, and no key.
@@ -79,7 +133,9 @@ pub struct Book<'a> {
     pub lengths: &'a mut [u8],
     /// A slot of 64 bytes for each key.
     pub store: &'a mut [u8],
-    /// The counter last accepted under each secret.
+    /// [`HEARD`] or [`NOT_HEARD`] for each secret.
+    pub marks: &'a mut [u8],
+    /// The counter last accepted under each secret, 0 where it is not heard.
     pub received: &'a mut [u64],
     /// The counter last sealed under each secret.
     pub sent: &'a mut [u64],
@@ -94,6 +150,7 @@ impl fmt::Debug for Book<'_> {
             .field("ids", &self.ids)
             .field("lengths", &self.lengths)
             .field("store", &format_args!("{} bytes", self.store.len()))
+            .field("marks", &self.marks)
             .field("received", &self.received)
             .field("sent", &self.sent)
             .field("rows", &self.rows)
@@ -102,15 +159,16 @@ impl fmt::Debug for Book<'_> {
 }
 
 impl Book<'_> {
-    /// Checks a message that came from the network. Accepted, its counter is stored as received.
-    /// Hops, giaddr and the option 82, wherever that stands, are left out of what the MAC covers: a
-    /// relay may alter them.
+    /// Checks a message that came from the network. Accepted, its counter is the book's received one
+    /// and its row is marked heard: store both. Hops, giaddr and the option 82, wherever that stands,
+    /// are left out of what the MAC covers: a relay may alter them.
     pub fn check(&mut self, message: &[u8]) -> Result<Accepted, Refusal> {
         let (mut row, mut counter) = (0, 0);
         Refusal::from_number(c::check(
             self.ids,
             self.lengths,
             self.store,
+            self.marks,
             self.received,
             self.sent,
             self.rows,
@@ -129,6 +187,7 @@ impl Book<'_> {
             self.ids,
             self.lengths,
             self.store,
+            self.marks,
             self.received,
             self.sent,
             self.rows,
@@ -148,6 +207,7 @@ impl Book<'_> {
             self.ids,
             self.lengths,
             self.store,
+            self.marks,
             self.received,
             self.sent,
             self.rows,
@@ -158,8 +218,9 @@ impl Book<'_> {
         Ok(counter)
     }
 
-    /// Reads a card: its rows and counters replace those in use. An old card brings old counters
-    /// back.
+    /// Reads a card of either form: its rows, with marks and counters, replace those in use. A card
+    /// of an earlier day brings the marks and counters of that day back: a row that was not heard then
+    /// takes any counter once more.
     pub fn card_read(&mut self, card: &[u8]) -> Result<(), Refusal> {
         let mut rows = 0;
         Refusal::from_number(c::card_read(
@@ -167,6 +228,7 @@ impl Book<'_> {
             self.ids,
             self.lengths,
             self.store,
+            self.marks,
             self.received,
             self.sent,
             &mut rows,
@@ -175,14 +237,15 @@ impl Book<'_> {
         Ok(())
     }
 
-    /// Writes the book's card into the first bytes of the room and returns its size, [`CARD_MOST`]
-    /// at the most.
+    /// Writes the book's card, in the new form, into the first bytes of the room and returns its size,
+    /// [`CARD_MOST`] at the most; later bytes of the room stay as they were.
     pub fn card_write(&self, room: &mut [u8]) -> Result<usize, Refusal> {
         let mut size = 0;
         Refusal::from_number(c::card_write(
             self.ids,
             self.lengths,
             self.store,
+            self.marks,
             self.received,
             self.sent,
             self.rows,

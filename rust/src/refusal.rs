@@ -44,13 +44,14 @@ refusals! {
     OtherAuthentication = 8, "option 90 is not delayed authentication with HMAC-MD5 and a counter";
     RequestForm = 9, "option 90 is a request, without id and MAC";
     UnknownSecret = 10, "the secret id has no row";
-    Replay = 11, "the counter is not above the row's received one";
+    Replay = 11, "the row is heard and the counter is not above its received one";
     WrongMac = 12, "the MAC differs";
     CounterSpent = 13, "the sent counter is at its last value";
     TooLong = 14, "the digest's total would pass 65,535 bytes, or the key is above 64 bytes";
     MalformedCard = 15, "the card is malformed";
     NoRoomForCard = 16, "the room for the card is too small";
     NoRoomForRows = 17, "the card has more rows than there is room for";
+    RowNotHeard = 18, "the old form of a card is wanted and a row is not heard";
 }
 
 impl Refusal {

@@ -1,6 +1,6 @@
--- The ends of reading a card and of writing one, each as one case: what is so where this is answered and this is left (`read-case`, `write-case`), and
--- that this is answered and left where that is so (`case-read`, `case-write`).
--- The only law file that unfolds `readOf`, `readBook`, `rowsIn`, `writeOf` and `roomAfter`.
+-- The ends of reading a card, of writing one and of moving one, each as one case: what is so where this is answered and this is left (`read-case`,
+-- `write-case`, `move-case`), and that this is answered and left where that is so (`case-read`, `case-write`, `case-move`).
+-- The only law file that unfolds `readOf`, `readBook`, `rowsIn`, `writeOf`, `roomAfter`, `moveOf` and `roomMoved`.
 use mathlib.Core.Path.{_≡_, refl, sym, ap, _∙_}
 use mathlib.Core.Bool.{Bool, true, false, cond, true≢false}
 use mathlib.Core.Option.{Option, none, some}
@@ -10,13 +10,16 @@ use mathlib.Mathlib.Data.Bool.Basic.{eq-false-eq-not-eq-true}
 use borrow.Author.Tests.{lt-ltb, le-ltb, ltb-true, ltb-false}
 use lib.Dec.{ltb}
 use lib.ListN.{length, drop}
-use Rattle.refusal.specs.declared.Refusal.the-variants.{UnsoundBook, MalformedCard, NoRoomForCard, NoRoomForRows}
+use Rattle.refusal.specs.declared.Refusal.the-variants.{UnsoundBook, MalformedCard, NoRoomForCard, NoRoomForRows, RowNotHeard}
 use Rattle.key_book.specs.Book.{Book, Sized, sized, Sound, sound}
 use Rattle.key_book.proofs.Says.{sized-says, sound-says}
+use Rattle.book_card.specs.declared.CardForm.{CardForm}
+use Rattle.book_card.specs.declared.CardForm.the-variants.{New}
 use Rattle.book_card.specs.Card.{Row, cardOf}
 use Rattle.book_card.specs.Reader.{readCard}
 use Rattle.book_card.specs.Reading.{loaded, readAs, readOf, rowsIn, readBy, readBook}
 use Rattle.book_card.specs.Writing.{rowsOf, writeOf, roomBy, roomAfter}
+use Rattle.book_card.specs.Moving.{holds, moveAs, moveOf, movedBy, roomMoved}
 use Rattle.book_card.specs.declared.ReadAnswer.{ReadAnswer}
 use Rattle.book_card.specs.declared.ReadAnswer.the-variants.{Refused, Rows}
 use Rattle.book_card.specs.declared.WriteAnswer.{WriteAnswer}
@@ -73,13 +76,13 @@ module _ (b : Book) (card : List ℕ) where
 -- writing book b's card to this room: the answer, and the room afterwards
 pub data WriteCase (b : Book) (room : List ℕ) : WriteAnswer → List ℕ → Type 0 where
   unsound : (Sound b → ⊥) → WriteCase b room (NotWritten UnsoundBook) room
-  small : Sound b → length room < length (cardOf (rowsOf b)) → WriteCase b room (NotWritten NoRoomForCard) room
-  wrote : Sound b → length (cardOf (rowsOf b)) ≤ length room
-      → WriteCase b room (Size (length (cardOf (rowsOf b)))) (cardOf (rowsOf b) ++ drop (length (cardOf (rowsOf b))) room)
+  small : Sound b → length room < length (cardOf New (rowsOf b)) → WriteCase b room (NotWritten NoRoomForCard) room
+  wrote : Sound b → length (cardOf New (rowsOf b)) ≤ length room
+      → WriteCase b room (Size (length (cardOf New (rowsOf b)))) (cardOf New (rowsOf b) ++ drop (length (cardOf New (rowsOf b))) room)
 
 module _ (b : Book) (room : List ℕ) where
   abbrev size : ℕ
-  size = length (cardOf (rowsOf b))
+  size = length (cardOf New (rowsOf b))
 
   pub write-case : WriteCase b room (writeOf b (length room)) (roomAfter b room)
   unfolding writeOf roomAfter
@@ -110,3 +113,48 @@ written-alike b c s t r room = case-write c room (on (write-case b room))
     on (unsound h) = absurd (h s)
     on (small _ l) = small t (rw (← r) l)
     on (wrote _ l) = rw r (wrote t (rw (← r) l))
+
+-- ---- moving
+
+-- moving this card to the wanted form in this room: the answer, and the room afterwards
+pub data MoveCase (wanted : CardForm) (card room : List ℕ) : WriteAnswer → List ℕ → Type 0 where
+  no-card : readCard card ≡ none → MoveCase wanted card room (NotWritten MalformedCard) room
+  no-space : (rows : List Row) → readCard card ≡ some rows → length room < length (cardOf wanted rows)
+      → MoveCase wanted card room (NotWritten NoRoomForCard) room
+  unheard : (rows : List Row) → readCard card ≡ some rows → length (cardOf wanted rows) ≤ length room → holds wanted rows ≡ false
+      → MoveCase wanted card room (NotWritten RowNotHeard) room
+  moved : (rows : List Row) → readCard card ≡ some rows → length (cardOf wanted rows) ≤ length room → holds wanted rows ≡ true
+      → MoveCase wanted card room (Size (length (cardOf wanted rows))) (cardOf wanted rows ++ drop (length (cardOf wanted rows)) room)
+
+module _ (wanted : CardForm) (card room : List ℕ) where
+  abbrev Goes : WriteAnswer → Type 0
+  Goes a = MoveCase wanted card room a (movedBy wanted card room a)
+
+  by-rows : (o : Option (List Row)) → readCard card ≡ o → Goes (moveAs wanted (length room) o)
+  by-rows none e = no-card e
+  by-rows (some rows) e = on (ltb (length room) (length (cardOf wanted rows))) refl (holds wanted rows) refl
+    where
+      on : (t : Bool) → ltb (length room) (length (cardOf wanted rows)) ≡ t → (u : Bool) → holds wanted rows ≡ u
+          → Goes (cond t (NotWritten NoRoomForCard) (cond u (Size (length (cardOf wanted rows))) (NotWritten RowNotHeard)))
+      on true l u h = no-space rows e (ltb-true _ _ l)
+      on false l false h = unheard rows e (ltb-false _ _ l) h
+      on false l true h = rw (rows-of-card card rows e) (moved rows e (ltb-false _ _ l) h)
+
+  pub move-case : MoveCase wanted card room (moveOf wanted card (length room)) (roomMoved wanted card room)
+  unfolding moveOf roomMoved
+  move-case = by-rows (readCard card) refl
+
+  moved-so : (a : WriteAnswer) → a ≡ moveOf wanted card (length room)
+      → (a ≡ moveOf wanted card (length room)) × (movedBy wanted card room a ≡ roomMoved wanted card room)
+  unfolding roomMoved
+  moved-so a e = (e, ap (movedBy wanted card room) e)
+
+  pub case-move : {a : WriteAnswer} {after : List ℕ} → MoveCase wanted card room a after
+      → (a ≡ moveOf wanted card (length room)) × (after ≡ roomMoved wanted card room)
+  unfolding moveOf
+  case-move (no-card e) = moved-so (NotWritten MalformedCard) (rw e)
+  case-move (no-space rows e l) = moved-so (NotWritten NoRoomForCard) (rw (e, lt-ltb (length room) (length (cardOf wanted rows)) l))
+  case-move (unheard rows e l h) = moved-so (NotWritten RowNotHeard) (rw (e, le-ltb (length room) (length (cardOf wanted rows)) l, h))
+  case-move (moved rows e l h) =
+      rw (rows-of-card card rows e) at
+      (moved-so (Size (length (cardOf wanted rows))) (rw (e, le-ltb (length room) (length (cardOf wanted rows)) l, h)))

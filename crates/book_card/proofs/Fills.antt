@@ -2,162 +2,85 @@
 use mathlib.Core.Path.{_≡_, refl, sym, ap, ap₂, _∙_}
 use mathlib.Core.Bool.{Bool, true, false, not, true≢false}
 use mathlib.Core.Option.{Option, none, some}
-use mathlib.Core.List.{List, _++_}
+use mathlib.Core.List.{List}
 use Prim.Native.Nat.{ℕ, suc, _+_, _≤_, _<_}
 use native.Mathlib.Omega.{arith}
 use borrow.Author.Tests.{not-true, not-false}
-use lib.ListN.{length, getD, drop, length-drop, drop-of-length-le}
-use lib.Seq.{drop-cons, drop-drop}
+use lib.ListN.{length, getD, drop, drop-of-length-le}
+use lib.Seq.{drop-cons}
 use Rattle.refusal.specs.declared.Refusal.the-variants.{UnsoundBook, MalformedCard, NoRoomForRows}
-use Rattle.octets.specs.Bytes.{Bytes}
-use Rattle.key_book.specs.Limits.{slotSize}
 use Rattle.key_book.specs.Book.{Book, bookOf, Sized, sized}
 use Rattle.key_book.specs.Laws.{Within}
 use Rattle.key_book.proofs.Says.{sized-says}
+use Rattle.book_card.specs.declared.CardForm.{CardForm}
 use Rattle.book_card.specs.Layout.{keyAt}
-use Rattle.book_card.specs.Card.{Row, rowRecord, rowRecords, close, cardOf, emptyRow, InOrder, RowFits}
-use Rattle.book_card.specs.Reader.{frontOf, rowFront, readCard, countedFrom}
+use Rattle.book_card.specs.Card.{Row, rowWith, emptyRow}
+use Rattle.book_card.specs.Reader.{frontOf, readCard, countedFrom}
 use Rattle.book_card.specs.Reading.{setRow, loaded, readOf, rowsIn, readBook}
-use Rattle.book_card.specs.declared.Front.{Front}
 use Rattle.book_card.specs.declared.Front.the-variants.{Row as RowFront}
-use Rattle.book_card.specs.declared.Counted.the-variants.{Malformed, Rows as RowCount}
+use Rattle.book_card.specs.declared.Counted.the-variants.{Malformed}
 use Rattle.book_card.specs.declared.ReadAnswer.{ReadAnswer}
 use Rattle.book_card.specs.declared.ReadAnswer.the-variants.{Refused, Rows}
-use Rattle.book_card.proofs.Shape.{records-cons, card-is, row-read, front-of-row, row-of-front}
 use Rattle.book_card.proofs.Loads.{room-for, row-set-long, row-set-sized, setFrom, set-all, set-none, set-cons}
-use Rattle.book_card.proofs.Says.{card-says}
-use Rattle.book_card.proofs.Ends.{rows-of-card, unsized, malformed, no-room, read, case-read}
-
--- a card of so many rows
-pub record CardRows (card : List ℕ) (n : ℕ) : Type 0 where
-  pub reads : readCard card ≡ some (rowsIn card)
-  pub order : InOrder (rowsIn card)
-  pub bytes : card ≡ cardOf (rowsIn card)
-  pub count : length (rowsIn card) ≡ n
-
--- what the first pass told
-module _ (card : List ℕ) (h : Bytes card) where
-  card-rows : (o : Option (List Row)) → readCard card ≡ o → (n : ℕ) → RowCount n ≡ countedFrom 0 o → CardRows card n
-  card-rows none e n c = absurd (let z : _≡_ {A = ℕ} 0 1 = cc in omega arith)
-  card-rows (some rows) e n c =
-      let i = rows-of-card card rows e in
-      let s = card-says card h rows .0 e in
-      let z : 0 + length rows ≡ n = cc in
-      record { reads = e ∙ ap some (sym i); order = rw i (s .0); bytes = rw i (s .1); count = rw i (omega arith) }
-
-  pub counted-rows : (n : ℕ) → RowCount n ≡ countedFrom 0 (readCard card) → CardRows card n
-  counted-rows n c = card-rows (readCard card) refl n c
+use Rattle.book_card.proofs.Ends.{unsized, malformed, no-room, read, case-read}
+use Rattle.book_card.proofs.Walks.{CardRows, Placed, placed-start, keyCut, here-row, fits, turn}
 
 -- so many of a card's n rows are set, from the card up to `at`; b is the book as lent, c as it is now: with the other rows set it is the loaded book
-pub record Filling (card : List ℕ) (n : ℕ) (b c : Book) (at row : ℕ) : Type 0 where
-  pub holds : CardRows card n
+pub record Filling (form : CardForm) (card : List ℕ) (n : ℕ) (b c : Book) (at row : ℕ) : Type 0 where
+  pub walk : Placed form card n at row
   pub room : n ≤ length (b .ids)
-  pub lent : Sized b
   pub sizes : Sized c
   pub long : length (c .ids) ≡ length (b .ids)
-  pub within : row ≤ n
-  pub at-within : at ≤ length card
-  pub place : drop at card ≡ rowRecords (drop row (rowsIn card)) ++ close (length (rowsIn card))
   pub rest : setFrom c row (drop row (rowsIn card)) ≡ loaded b (rowsIn card)
 
-pub filling-start : (card : List ℕ) (n : ℕ) (b : Book) → CardRows card n → Sized b → n ≤ length (b .ids) → Filling card n b b 0 0
-filling-start card n b q z m =
-    record {
-      holds = q;
-      room = m;
-      lent = z;
-      sizes = z;
-      long = refl;
-      within = omega arith;
-      at-within = omega arith;
-      place = q .bytes ∙ card-is (rowsIn card);
-      rest = set-all b (rowsIn card);
-    }
+pub filling-start : (form : CardForm) (card : List ℕ) (n : ℕ) (b : Book) → CardRows form card n → Sized b → n ≤ length (b .ids)
+    → Filling form card n b b 0 0
+filling-start form card n b q z m = record { walk = placed-start form card n q; room = m; sizes = z; long = refl; rest = set-all b (rowsIn card) }
 
--- what a turn needs, by the size of the key in front
-pub record Turn (card : List ℕ) (c : Book) (at row size : ℕ) : Type 0 where
-  pub within : Within c row
-  pub small : size ≤ slotSize
-  pub long : at + (keyAt + size) ≤ length card
+module _ {form : CardForm} {card : List ℕ} {n : ℕ} {b c : Book} {at row : ℕ} (f : Filling form card n b c at row) (h : row < n) where
+  in-ids : row < length (c .ids)
+  in-ids = let l = f .long in let m = f .room in omega arith
 
-module _ {card : List ℕ} {n : ℕ} {b c : Book} {at row : ℕ} (f : Filling card n b c at row) (h : row < n) where
-  abbrev rows : List Row
-  rows = rowsIn card
+  -- the row lies within the book
+  pub row-within : Within c row
+  row-within = room-for c (f .sizes) row (getD (rowsIn card) row emptyRow) in-ids (fits (f .walk) h .key-to)
 
-  abbrev r : Row
-  r = getD rows row emptyRow
+  -- the row set
+  pub filling-turn : (k : ℕ) → k ≡ keyAt form → (id mark received sent size : ℕ) → RowFront id mark received sent size ≡ frontOf form (drop at card)
+      → (c′ : Book) → c′ ≡ setRow c row (rowWith id mark received sent (keyCut card at k size))
+      → Filling form card n b c′ (at + k + size) (row + 1)
+  filling-turn k ek id mark received sent size e c′ e₁ =
+      let r = getD (rowsIn card) row emptyRow in
+      let to = fits (f .walk) h .key-to in
+      let t = turn (f .walk) h k ek id mark received sent size e in
+      let e₂ : c′ ≡ setRow c row r = e₁ ∙ ap (setRow c row) (t .is-row) in
+      let q : row + 1 ≡ suc row = omega arith in
+      record {
+        walk = t .next;
+        room = f .room;
+        sizes = rw e₂ (row-set-sized c (f .sizes) row r in-ids to);
+        long = rw e₂ (row-set-long c (f .sizes) row r in-ids to ∙ f .long);
+        rest = ap₂ (λ (x : Book) (m : ℕ). setFrom x (row + 1) (drop m (rowsIn card))) e₂ q
+            ∙ sym (set-cons c (f .sizes) row r (drop (suc row) (rowsIn card)) in-ids to)
+            ∙ ap (setFrom c row) (sym (drop-cons (rowsIn card) row emptyRow (here-row (f .walk) h))) ∙ f .rest;
+      }
 
-  abbrev after : List ℕ
-  after = rowRecords (drop (suc row) rows) ++ close (length rows)
-
-  here-row : row < length rows
-  here-row = let e = f .holds .count in omega arith
-
-  fits : RowFits r
-  fits = f .holds .order .fit row here-row
-
-  at-row : drop at card ≡ rowRecord r ++ after
-  at-row =
-      f .place ∙ ap (λ (x : List Row). rowRecords x ++ close (length rows)) (drop-cons rows row emptyRow here-row)
-      ∙ records-cons r (drop (suc row) rows) (close (length rows))
-
-  -- a row stands in front, and nothing else does
-  pub row-in-front : (x : Front) → x ≡ frontOf (drop at card) → x ≡ RowFront (r .id) (length (r .key))
-  row-in-front x e = e ∙ ap frontOf at-row ∙ front-of-row r after fits
-
-  -- the turn, by the row that the code finds in front
-  module _ (id size : ℕ) (e : RowFront id size ≡ frontOf (drop at card)) where
-    is-size : size ≡ length (r .key)
-    is-size = let q = row-in-front (RowFront id size) e in cc
-
-    is-row : rowFront (drop at card) size ≡ r
-    is-row = ap₂ rowFront at-row is-size ∙ row-of-front r after fits
-
-    in-ids : row < length (c .ids)
-    in-ids = let l = f .long in let m = f .room in omega arith
-
-    pub turn : Turn card c at row size
-    turn =
-        let t = fits .key-to in
-        let s = is-size in
-        let l = ap length at-row in
-        let g = row-read r after fits .long in
-        let d = length-drop at card in
-        let w = f .at-within in
-        record { within = room-for c (f .sizes) row r in-ids t; small = omega arith; long = omega arith }
-
-    -- the row set
-    pub filling-turn : (c′ : Book) → c′ ≡ setRow c row (rowFront (drop at card) size) → Filling card n b c′ (at + keyAt + size) (row + 1)
-    filling-turn c′ e₁ =
-        let t = turn .long in
-        let to = fits .key-to in
-        let e₂ : c′ ≡ setRow c row r = e₁ ∙ ap (setRow c row) is-row in
-        let p : at + keyAt + size ≡ at + (keyAt + size) = omega arith in
-        let q : row + 1 ≡ suc row = omega arith in
-        record {
-          holds = f .holds;
-          room = f .room;
-          lent = f .lent;
-          sizes = rw e₂ (row-set-sized c (f .sizes) row r in-ids to);
-          long = rw e₂ (row-set-long c (f .sizes) row r in-ids to ∙ f .long);
-          within = omega arith;
-          at-within = omega arith;
-          place = ap (λ (m : ℕ). drop m card) p ∙ sym (drop-drop (keyAt + size) at card)
-              ∙ ap₂ (λ (m : ℕ) (x : List ℕ). drop (keyAt + m) x) is-size at-row ∙ row-read r after fits .rest
-              ∙ ap (λ (m : ℕ). rowRecords (drop m rows) ++ close (length rows)) (sym q);
-          rest = ap₂ (λ (x : Book) (m : ℕ). setFrom x (row + 1) (drop m rows)) e₂ q
-              ∙ sym (set-cons c (f .sizes) row r (drop (suc row) rows) in-ids to)
-              ∙ ap (setFrom c row) (sym (drop-cons rows row emptyRow here-row)) ∙ f .rest;
-        }
-
-pub filling-end : {card : List ℕ} {n : ℕ} {b c : Book} {at row : ℕ} → Filling card n b c at row → n ≤ row
-    → bookOf (c .ids) (c .lengths) (c .store) (c .received) (c .sent) n ≡ loaded b (rowsIn card)
-filling-end {card} {n} {b} {c} {at} {row} f h =
-    let e = f .holds .count in
-    let w = f .within in
+pub filling-end : {form : CardForm} {card : List ℕ} {n : ℕ} {b c : Book} {at row : ℕ} → Filling form card n b c at row → n ≤ row
+    → bookOf (c .ids) (c .lengths) (c .store) (c .marks) (c .received) (c .sent) n ≡ loaded b (rowsIn card)
+filling-end {card = card} {n = n} {c = c} {row = row} f h =
+    let e = f .walk .holds .count in
+    let w = f .walk .within in
     let q : row ≡ n = omega arith in
     let l : length (rowsIn card) ≤ row = omega arith in
     sym (set-none c row n q) ∙ ap (setFrom c row) (sym (drop-of-length-le (rowsIn card) l)) ∙ f .rest
+
+-- bytes that the first pass calls malformed are read as nothing
+pub told-malformed : (card : List ℕ) → Malformed ≡ countedFrom 0 (readCard card) → readCard card ≡ none
+told-malformed card m = on (readCard card) m
+  where
+    on : (o : Option (List Row)) → Malformed ≡ countedFrom 0 o → o ≡ none
+    on none m = refl
+    on (some rows) m = absurd (let z : _≡_ {A = ℕ} 0 1 = cc in omega arith)
 
 -- the ends of `card_read`: the answer, and the lent book afterwards
 module _ (b : Book) (card : List ℕ) where
@@ -173,13 +96,9 @@ module _ (b : Book) (card : List ℕ) where
       told-sized = sized-says b .0 (sym e ∙ not-false t h)
 
       pub read-malformed : Malformed ≡ countedFrom 0 (readCard card) → Ends (Refused MalformedCard) b
-      read-malformed m = case-read b card (malformed told-sized (on (readCard card) m))
-        where
-          on : (o : Option (List Row)) → Malformed ≡ countedFrom 0 o → o ≡ none
-          on none m = refl
-          on (some rows) m = absurd (let z : _≡_ {A = ℕ} 0 1 = cc in omega arith)
+      read-malformed m = case-read b card (malformed told-sized (told-malformed card m))
 
-      module _ (n : ℕ) (q : CardRows card n) where
+      module _ {form : CardForm} (n : ℕ) (q : CardRows form card n) where
         pub read-no-room : length (b .ids) < n → Ends (Refused NoRoomForRows) b
         read-no-room l = case-read b card (no-room told-sized (rowsIn card) (q .reads) (rw (q .count) l))
 

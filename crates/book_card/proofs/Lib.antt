@@ -1,3 +1,4 @@
+pub mod Forms
 pub mod Fronts
 pub mod Shape
 pub mod Steps
@@ -6,6 +7,9 @@ pub mod Counting
 pub mod Slots
 pub mod Loads
 pub mod Ends
-pub mod Fills
 pub mod Writes
+pub mod Walks
+pub mod Fills
+pub mod Rowless
 pub mod Puts
+pub mod Moves

@@ -4,48 +4,34 @@ use mathlib.Core.List.{List, [], _∷_, map}
 use Prim.Native.Nat.{ℕ, suc, _+_, _-_, _*_, _≤_, _<_}
 use native.Mathlib.Nat.{zero-add}
 use native.Mathlib.Omega.{arith}
-use lib.ListN.{length, take, drop, set, length-set, length-drop}
-use lib.Seq.{drop-drop, length-take-le}
+use lib.ListN.{length, set, length-set}
 use Rattle.octets.specs.Bytes.{written, zeros}
-use Rattle.octets.specs.Numbers.{littleAt}
 use Rattle.octets.proofs.Written.{length-written, written-cons, written-join, written-none}
 use Rattle.octets.proofs.Filled.{written-filled}
-use Rattle.octets.proofs.LowFirst.{number-from}
 use Rattle.key_book.specs.Limits.{slotSize}
 use Rattle.key_book.specs.Book.{Book, bookOf, Sized}
 use Rattle.key_book.specs.Laws.{Within}
-use Rattle.book_card.specs.Layout.{idSize, counterSize, bodyAt, receivedAt, sentAt, keyAt}
-use Rattle.book_card.specs.Card.{Row}
-use Rattle.book_card.specs.Reader.{rowFront}
+use Rattle.book_card.specs.Card.{Row, rowWith}
 use Rattle.book_card.specs.Reading.{slotsOf, setRow, loaded}
 use Rattle.book_card.proofs.Slots.{slotOf, slot-length, slots-none, slots-cons}
 
 -- ---- one row
 
--- what the code's own stores leave is the row in front set
-module _ (card : List ℕ) (at size row : ℕ) (b : Book) (w : Within b row) (small : size ≤ slotSize) (fits : at + (keyAt + size) ≤ length card) where
-  pub row-set : (id received sent : ℕ) (store₁ store₂ : List ℕ)
-      → id ≡ littleAt card (at + bodyAt) idSize
-      → received ≡ littleAt card (at + receivedAt) counterSize
-      → sent ≡ littleAt card (at + sentAt) counterSize
-      → store₁ ≡ written (slotSize * row) (take size (drop (at + keyAt) card)) (b .store)
-      → store₂ ≡ written (slotSize * row + size) (zeros (slotSize - size)) store₁
-      → bookOf (set (b .ids) row id) (set (b .lengths) row size) store₂ (set (b .received) row received) (set (b .sent) row sent) 0
-      ≡ setRow b row (rowFront (drop at card) size)
-  unfolding setRow
-  row-set id received sent store₁ store₂ ei er en e₁ e₂ =
-      let r = rowFront (drop at card) size in
-      let room = w .in-store in
-      let n : (more width x : ℕ) → x ≡ littleAt card (at + more) width → x ≡ littleAt (drop at card) more width =
-      λ more width x e. e ∙ sym (number-from card at more width) in
-      let d : drop (at + keyAt) card ≡ drop keyAt (drop at card) = sym (drop-drop keyAt at card) in
-      let l : length (r .key) ≡ size = length-take-le size _ (rw (length-drop, length-drop) (omega arith)) in
-      let s : store₂ ≡ written (slotSize * row) (slotOf (r .key)) (b .store) =
-      e₂ ∙ ap (written (slotSize * row + size) (zeros (slotSize - size))) (e₁ ∙ ap (λ (x : List ℕ). written (slotSize * row) (take size x) (b .store)) d)
-      ∙ ap (λ (m : ℕ). written (slotSize * row + m) (zeros (slotSize - m)) (written (slotSize * row) (r .key) (b .store))) (sym l)
-      ∙ written-filled slotSize (r .key) (omega arith) (slotSize * row) (b .store) room in
-      λ i. bookOf (set (b .ids) row (n bodyAt idSize id ei i)) (set (b .lengths) row (sym l i)) (s i)
-      (set (b .received) row (n receivedAt counterSize received er i)) (set (b .sent) row (n sentAt counterSize sent en i)) 0
+-- what the code's own stores leave is the row set
+pub row-set : (b : Book) (row : ℕ) → Within b row → (key : List ℕ) → length key ≤ slotSize → (id mark received sent : ℕ) (store₁ store₂ : List ℕ)
+    → store₁ ≡ written (slotSize * row) key (b .store)
+    → store₂ ≡ written (slotSize * row + length key) (zeros (slotSize - length key)) store₁
+    → bookOf (set (b .ids) row id) (set (b .lengths) row (length key)) store₂ (set (b .marks) row mark) (set (b .received) row received)
+    (set (b .sent) row sent) 0
+    ≡ setRow b row (rowWith id mark received sent key)
+unfolding setRow
+row-set b row w key small id mark received sent store₁ store₂ e₁ e₂ =
+    let room = w .in-store in
+    let s : store₂ ≡ written (slotSize * row) (slotOf key) (b .store) =
+    e₂ ∙ ap (written (slotSize * row + length key) (zeros (slotSize - length key))) e₁
+    ∙ written-filled slotSize key small (slotSize * row) (b .store) room in
+    λ i. bookOf (set (b .ids) row id) (set (b .lengths) row (length key)) (s i) (set (b .marks) row mark) (set (b .received) row received)
+    (set (b .sent) row sent) 0
 
 module _ (b : Book) (z : Sized b) (k : ℕ) (r : Row) (h : k < length (b .ids)) (t : length (r .key) ≤ slotSize) where
   pub room-for : Within b k
@@ -54,6 +40,7 @@ module _ (b : Book) (z : Sized b) (k : ℕ) (r : Row) (h : k < length (b .ids)) 
         in-ids = h;
         in-lengths = omega (arith, z .lengths-agree);
         in-store = omega (arith, z .store-agrees);
+        in-marks = omega (arith, z .marks-agree);
         in-received = omega (arith, z .received-agree);
         in-sent = omega (arith, z .sent-agree);
       }
@@ -73,6 +60,7 @@ module _ (b : Book) (z : Sized b) (k : ℕ) (r : Row) (h : k < length (b .ids)) 
         room = omega (arith, z .room);
         lengths-agree = length-set (b .lengths) k _ ∙ z .lengths-agree ∙ sym i;
         store-agrees = length-written (slotSize * k) _ (b .store) slot-room ∙ z .store-agrees ∙ ap (λ (n : ℕ). slotSize * n) (sym i);
+        marks-agree = length-set (b .marks) k _ ∙ z .marks-agree ∙ sym i;
         received-agree = length-set (b .received) k _ ∙ z .received-agree ∙ sym i;
         sent-agree = length-set (b .sent) k _ ∙ z .sent-agree ∙ sym i;
       }
@@ -86,6 +74,7 @@ setFrom b k rows =
     (written k (map (λ (r : Row). r .id) rows) (b .ids))
     (written k (map (λ (r : Row). length (r .key)) rows) (b .lengths))
     (written (slotSize * k) (slotsOf rows) (b .store))
+    (written k (map (λ (r : Row). r .mark) rows) (b .marks))
     (written k (map (λ (r : Row). r .received) rows) (b .received))
     (written k (map (λ (r : Row). r .sent) rows) (b .sent))
     (k + length rows)
@@ -95,6 +84,7 @@ pub loaded-is : (b : Book) (rows : List Row) → loaded b rows
     (written 0 (map (λ (r : Row). r .id) rows) (b .ids))
     (written 0 (map (λ (r : Row). length (r .key)) rows) (b .lengths))
     (written 0 (slotsOf rows) (b .store))
+    (written 0 (map (λ (r : Row). r .mark) rows) (b .marks))
     (written 0 (map (λ (r : Row). r .received) rows) (b .received))
     (written 0 (map (λ (r : Row). r .sent) rows) (b .sent))
     (length rows)
@@ -105,15 +95,16 @@ pub set-all : (b : Book) (rows : List Row) → setFrom b 0 rows ≡ loaded b row
 unfolding setFrom loaded
 set-all b rows =
     let c = loaded b rows in
-    λ i. bookOf (c .ids) (c .lengths) (c .store) (c .received) (c .sent) (zero-add (length rows) i)
+    λ i. bookOf (c .ids) (c .lengths) (c .store) (c .marks) (c .received) (c .sent) (zero-add (length rows) i)
 
-pub set-none : (b : Book) (k n : ℕ) → k ≡ n → setFrom b k [] ≡ bookOf (b .ids) (b .lengths) (b .store) (b .received) (b .sent) n
+pub set-none : (b : Book) (k n : ℕ) → k ≡ n → setFrom b k [] ≡ bookOf (b .ids) (b .lengths) (b .store) (b .marks) (b .received) (b .sent) n
 unfolding setFrom
 set-none b k n e =
     let s : written (slotSize * k) (slotsOf []) (b .store) ≡ b .store =
     ap (λ (x : List ℕ). written (slotSize * k) x (b .store)) slots-none ∙ written-none _ _ in
     let m : k + 0 ≡ n = omega arith in
-    λ i. bookOf (written-none k (b .ids) i) (written-none k (b .lengths) i) (s i) (written-none k (b .received) i) (written-none k (b .sent) i) (m i)
+    λ i. bookOf (written-none k (b .ids) i) (written-none k (b .lengths) i) (s i) (written-none k (b .marks) i) (written-none k (b .received) i)
+    (written-none k (b .sent) i) (m i)
 
 -- the first of them set, then the others
 pub set-cons : (b : Book) → Sized b → (k : ℕ) (r : Row) (more : List Row) → k < length (b .ids) → length (r .key) ≤ slotSize
@@ -133,6 +124,7 @@ set-cons b z k r more h t =
     (written-cons k (r .id) (map (λ (r : Row). r .id) more) (b .ids) h i)
     (written-cons k (length (r .key)) (map (λ (r : Row). length (r .key)) more) (b .lengths) (w .in-lengths) i)
     (s i)
+    (written-cons k (r .mark) (map (λ (r : Row). r .mark) more) (b .marks) (w .in-marks) i)
     (written-cons k (r .received) (map (λ (r : Row). r .received) more) (b .received) (w .in-received) i)
     (written-cons k (r .sent) (map (λ (r : Row). r .sent) more) (b .sent) (w .in-sent) i)
     (n i)

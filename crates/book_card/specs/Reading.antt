@@ -27,6 +27,7 @@ setRow b k r =
     (set (b .ids) k (r .id))
     (set (b .lengths) k (length (r .key)))
     (written (slotSize * k) (filled slotSize (r .key)) (b .store))
+    (set (b .marks) k (r .mark))
     (set (b .received) k (r .received))
     (set (b .sent) k (r .sent))
     0
@@ -38,6 +39,7 @@ loaded b rows =
     (written 0 (map (λ (r : Row). r .id) rows) (b .ids))
     (written 0 (map (λ (r : Row). length (r .key)) rows) (b .lengths))
     (written 0 (slotsOf rows) (b .store))
+    (written 0 (map (λ (r : Row). r .mark) rows) (b .marks))
     (written 0 (map (λ (r : Row). r .received) rows) (b .received))
     (written 0 (map (λ (r : Row). r .sent) rows) (b .sent))
     (length rows)

@@ -1,21 +1,38 @@
-// The card on which a key book is stored: reading it into a lent book (`reading`, over `reader`), and writing a book's card (`writing`).
-// docs/RULES.md, 'The card'.
+// The card on which a key book is stored: reading it into a lent book (`reading`, over `reader`), writing a book's card (`writing`), and moving a card
+// to a form (`moving`); a record is written in one place (`records`). docs/RULES.md, 'The card'.
 // Not here: opening and reading files, and what a loaded book then accepts (delayed_auth).
 mod layout;
+mod moving;
 mod reader;
 mod reading;
+mod records;
 mod writing;
 
+pub use moving::card_move;
 pub use reading::card_read;
 use refusal::Refusal;
 pub use writing::card_write;
 
-// The record at a place of a card.
+// The form of a card's rows.
+pub enum CardForm {
+    // Without marks: every row is heard.
+    Old,
+    // With marks.
+    New,
+}
+
+// The record at a place of a card whose rows have a form.
 enum Front {
-    // No whole record, or one whose length is not of its kind.
+    // No whole record, no row of the form and no close, a length that is not of its kind, or a mark that does not go with its counter.
     Broken,
-    // A row: its id and the size of its key.
-    Row { id: u32, size: usize },
+    // A row: its fields, and the size of its key.
+    Row {
+        id: u32,
+        mark: u8,
+        received: u64,
+        sent: u64,
+        size: usize,
+    },
     // The close: the number of rows that it says.
     Close(usize),
 }
@@ -35,9 +52,9 @@ pub enum ReadAnswer {
     Rows(usize),
 }
 
-// The answer of `card_write`.
+// The answer of `card_write` and of `card_move`.
 pub enum WriteAnswer {
-    // UnsoundBook, NoRoomForCard; the room is not changed.
+    // Writing: UnsoundBook, NoRoomForCard. Moving: MalformedCard, NoRoomForCard, RowNotHeard. The room is not changed.
     Refused(Refusal),
     // The size of the card, which now stands at the front of the room.
     Size(usize),

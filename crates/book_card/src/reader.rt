@@ -1,27 +1,85 @@
-// What stands on a card: the record at a place of it, and the first pass over all of it.
+// What stands on a card: the form of its rows, the record at a place of it, and the first pass over all of it.
 ghost use mathlib.Core.Path.{_≡_};
-ghost use Prim.Native.Nat.{_≤_};
+ghost use Prim.Native.Nat.{_+_, _≤_};
 ghost use lib.ListN.{length, drop};
-ghost use Rattle.book_card.specs.Reader.{frontOf, readCard, countedFrom};
+ghost use Rattle.book_card.specs.Layout.{lengthSize, markAt, markSize};
+ghost use Rattle.book_card.specs.Reader.{formIn, markIn, rowBy, frontOf, rowsInFront, cardIn, countedFrom};
+use crate::CardForm;
 use crate::Counted;
 use crate::Front;
 use crate::layout::BODY_AT;
 use crate::layout::CLOSE_KIND;
 use crate::layout::CLOSE_SIZE;
 use crate::layout::COUNT_SIZE;
+use crate::layout::COUNTER_SIZE;
 use crate::layout::ID_SIZE;
-use crate::layout::KEY_AT;
 use crate::layout::KIND_AT;
 use crate::layout::KIND_SIZE;
 use crate::layout::LENGTH_SIZE;
-use crate::layout::ROW_KIND;
+use crate::layout::MARK_AT;
+use crate::layout::MARK_SIZE;
+use crate::layout::NEW_ROW_KIND;
+use crate::layout::key_at;
+use crate::layout::received_at;
+use crate::layout::row_kind;
+use crate::layout::sent_at;
 use key_book::ROWS_MOST;
 use key_book::SLOT_SIZE;
 
-// The record at a place of a card.
-pub(crate) fn front_at(card: &[u8], at: usize) -> Front
+// The form of a card's rows, by the kind of its first record.
+pub(crate) fn form_in(card: &[u8]) -> CardForm
+    ensures { λ r. ⌜ r ≡ formIn (now (card .entry)) ⌝ }
+{
+    if card.len() < BODY_AT {
+        return CardForm::Old;
+    }
+    if octets::little(card, KIND_AT, KIND_SIZE) == NEW_ROW_KIND {
+        return CardForm::New;
+    }
+    CardForm::Old
+}
+
+// The mark of the row at a place of a card.
+fn mark_in(card: &[u8], at: usize, form: CardForm) -> u8
+    requires { ⌜ at + (markAt + markSize form) ≤ length (now card) ⌝ }
+    ensures { λ r. ⌜ r ≡ markIn form (drop at (now (card .entry))) ⌝ }
+{
+    match form {
+        CardForm::Old => key_book::HEARD,
+        CardForm::New => octets::little(card, at + MARK_AT, MARK_SIZE) as u8,
+    }
+}
+
+// The row at a place of a card, whose length field says so much.
+fn row_at(card: &[u8], at: usize, form: CardForm, size: usize) -> Front
+    requires { ⌜ at + (lengthSize + size) ≤ length (now card) ⌝ }
+    ensures { λ r. ⌜ r ≡ rowBy form (drop at (now (card .entry))) size ⌝ }
+{
+    let before_key = key_at(form) - LENGTH_SIZE;
+    if size < before_key + 1 {
+        return Front::Broken;
+    }
+    if before_key + SLOT_SIZE < size {
+        return Front::Broken;
+    }
+    let mark = mark_in(card, at, form);
+    let received = octets::little(card, at + received_at(form), COUNTER_SIZE);
+    if !key_book::mark_fits(mark, received) {
+        return Front::Broken;
+    }
+    Front::Row {
+        id: octets::little(card, at + BODY_AT, ID_SIZE) as u32,
+        mark,
+        received,
+        sent: octets::little(card, at + sent_at(form), COUNTER_SIZE),
+        size: size - before_key,
+    }
+}
+
+// The record at a place of a card whose rows have this form.
+pub(crate) fn front_at(card: &[u8], at: usize, form: CardForm) -> Front
     requires { ⌜ at ≤ length (now card) ⌝ }
-    ensures { λ r. ⌜ r ≡ frontOf (drop at (now (card .entry))) ⌝ }
+    ensures { λ r. ⌜ r ≡ frontOf form (drop at (now (card .entry))) ⌝ }
 {
     let left = card.len() - at;
     if left < BODY_AT {
@@ -38,32 +96,23 @@ pub(crate) fn front_at(card: &[u8], at: usize) -> Front
         }
         return Front::Close(octets::little(card, at + BODY_AT, COUNT_SIZE) as usize);
     }
-    if kind != ROW_KIND {
+    if kind != row_kind(form) {
         return Front::Broken;
     }
-    if size < KEY_AT - LENGTH_SIZE + 1 {
-        return Front::Broken;
-    }
-    if KEY_AT - LENGTH_SIZE + SLOT_SIZE < size {
-        return Front::Broken;
-    }
-    let id = octets::little(card, at + BODY_AT, ID_SIZE) as u32;
-    Front::Row {
-        id,
-        size: size - (KEY_AT - LENGTH_SIZE),
-    }
+    row_at(card, at, form, size)
 }
 
-// The first pass: whether the bytes are a card, and of how many rows. Nothing is written before it is known.
-pub(crate) fn count_rows(card: &[u8]) -> Counted
-    ensures { λ r. ⌜ r ≡ countedFrom 0 (readCard (now (card .entry))) ⌝ }
+// The first pass: whether the bytes are a card with rows of this form, and of how many. Nothing is written before it is known.
+pub(crate) fn count_rows(card: &[u8], form: CardForm) -> Counted
+    ensures { λ r. ⌜ r ≡ countedFrom 0 (cardIn (rowsInFront form (now (card .entry)))) ⌝ }
 {
+    let head = key_at(form);
     let mut at: usize = 0;
     let mut rows: usize = 0;
     // The least id that may follow.
     let mut low: u64 = 0;
     loop {
-        let front = front_at(card, at);
+        let front = front_at(card, at, form);
         match front {
             Front::Broken => {
                 return Counted::Malformed;
@@ -77,7 +126,13 @@ pub(crate) fn count_rows(card: &[u8]) -> Counted
                 }
                 return Counted::Rows(rows);
             }
-            Front::Row { id, size } => {
+            Front::Row {
+                id,
+                mark: _,
+                received: _,
+                sent: _,
+                size,
+            } => {
                 if rows == ROWS_MOST {
                     return Counted::Malformed;
                 }
@@ -85,7 +140,7 @@ pub(crate) fn count_rows(card: &[u8]) -> Counted
                     return Counted::Malformed;
                 }
                 low = id as u64 + 1;
-                at = at + KEY_AT + size;
+                at = at + head + size;
                 rows = rows + 1;
             }
         }

@@ -10,14 +10,13 @@ use lib.ListN.{length}
 use Rattle.octets.specs.Bytes.{Bytes}
 use Rattle.key_book.specs.Book.{Book}
 use Rattle.delayed_auth.specs.declared.Verdict.{Verdict}
-use Rattle.book_card.specs.Card.{Row, InOrder, cardOf}
+use Rattle.book_card.specs.Card.{Row, CardFor, NoCard}
 use Rattle.book_card.specs.Reading.{loaded}
 use Rattle.demands.specs.Demand3.{Step, check, Answer, checked, answers, ending}
 use Rattle.verdict_line.specs.declared.Line.{Line}
 use Rattle.verdict_line.specs.declared.Line.the-variants.{Unreadable, Skipped, Cut}
 use Rattle.verdict_line.specs.Line.{lineOf, numberedLine}
 use Rattle.file_verdict.specs.Files.{fileMost, emptyBook, verdictLine}
-use Rattle.file_verdict.specs.Laws.{IsCardOf}
 use Rattle.capture.specs.declared.Order.{Order}
 use Rattle.capture.specs.declared.FileHeader.the-variants.{Other, Ethernet}
 use Rattle.capture.specs.declared.RecordHeader.the-variants.{Cut as HeaderCut, Frame}
@@ -46,7 +45,7 @@ pub data Tells : List Record → List Answer → List Line → Type 0 where
       → payloadOf (r .frame) (r .original) ≡ some message → Tells rs given lines → Tells (r ∷ rs) (checked v ∷ given) (verdictLine v ∷ lines)
 
 -- Demand 3's run: the lines are the answers of the checks of the payloads in the file's order, from the same book, each with its number; and the
--- received counters end as the run leaves them.
+-- book, its marks and received counters with it, ends as the run leaves it.
 pub record VerdictsAreAnswers : Type 0 where
   pub lines-tell : (b : Book) (records : List Record) → Tells records (answers b (checksOf records)) (recordLines b records)
   pub book-ends : (b : Book) (records : List Record) → bookAtEnd b records ≡ ending b (checksOf records)
@@ -89,12 +88,12 @@ pub record FailureSays : Type 0 where
 -- ---- any two files
 
 pub record LinesSay : Type 0 where
-  -- the card is missing or above the limit, or its bytes are no card: whatever stands in the capture's place
+  -- the card is missing or above the limit, or its bytes are no card in either form: whatever stands in the capture's place
   pub card-missing : (capture : Option (List ℕ)) → linesOfFiles none capture ≡ lineOf Unreadable ∷ []
   pub card-too-large : (card : List ℕ) → fileMost < length card → (capture : Option (List ℕ)) → linesOfFiles (some card) capture ≡ lineOf Unreadable ∷ []
-  pub card-malformed : (card : List ℕ) → length card ≤ fileMost → Bytes card → ((rows : List Row) → InOrder rows → card ≡ cardOf rows → ⊥)
+  pub card-malformed : (card : List ℕ) → length card ≤ fileMost → Bytes card → NoCard card
       → (capture : Option (List ℕ)) → linesOfFiles (some card) capture ≡ lineOf Unreadable ∷ []
   -- the card is good, and the capture is missing or not
-  pub capture-missing : (card : List ℕ) (rows : List Row) → IsCardOf card rows → linesOfFiles (some card) none ≡ lineOf Unreadable ∷ []
-  pub both-there : (card : List ℕ) (rows : List Row) → IsCardOf card rows → (capture : List ℕ)
+  pub capture-missing : (card : List ℕ) (rows : List Row) → CardFor rows card → linesOfFiles (some card) none ≡ lineOf Unreadable ∷ []
+  pub both-there : (card : List ℕ) (rows : List Row) → CardFor rows card → (capture : List ℕ)
       → linesOfFiles (some card) (some capture) ≡ linesOf (loaded emptyBook rows) capture

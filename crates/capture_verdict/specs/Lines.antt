@@ -5,7 +5,7 @@ use mathlib.Core.Bool.{true, cond}
 use mathlib.Core.List.{List, [], _∷_, _++_}
 use mathlib.Core.Option.{Option, none, some}
 use Rattle.key_book.specs.Book.{Book, bookOf}
-use Rattle.delayed_auth.specs.Check.{checkOf, receivedAfter}
+use Rattle.delayed_auth.specs.Check.{checkOf, marksAfter, receivedAfter}
 use Rattle.verdict_line.specs.declared.Line.{Line}
 use Rattle.verdict_line.specs.declared.Line.the-variants.{Unreadable, Skipped, Cut}
 use Rattle.verdict_line.specs.Line.{lineOf, numberedLine}
@@ -22,6 +22,10 @@ abbrev pub payloadLine : Book → Option (List ℕ) → Line
 payloadLine b none = Skipped
 payloadLine b (some message) = verdictLine (checkOf b message)
 
+abbrev pub marksOn : Book → Option (List ℕ) → List ℕ
+marksOn b none = b .marks
+marksOn b (some message) = marksAfter (checkOf b message) (b .marks)
+
 abbrev pub receivedOn : Book → Option (List ℕ) → List ℕ
 receivedOn b none = b .received
 receivedOn b (some message) = receivedAfter (checkOf b message) (b .received)
@@ -30,17 +34,21 @@ receivedOn b (some message) = receivedAfter (checkOf b message) (b .received)
 unfoldable pub recordLine : Book → List ℕ → ℕ → Line
 recordLine b frame original = payloadLine b (payloadOf frame original)
 
+-- the marks afterwards
+unfoldable pub marksBy : Book → List ℕ → ℕ → List ℕ
+marksBy b frame original = marksOn b (payloadOf frame original)
+
 -- the received counters afterwards
 unfoldable pub receivedBy : Book → List ℕ → ℕ → List ℕ
 receivedBy b frame original = receivedOn b (payloadOf frame original)
 
--- a book with these received counters
-abbrev pub withReceived : Book → List ℕ → Book
-withReceived b received = bookOf (b .ids) (b .lengths) (b .store) received (b .sent) (b .rows)
+-- a book with these marks and received counters, which are all that checks change
+abbrev pub withHeard : Book → (marks received : List ℕ) → Book
+withHeard b marks received = bookOf (b .ids) (b .lengths) (b .store) marks received (b .sent) (b .rows)
 
 -- the book afterwards
 abbrev pub bookBy : Book → List ℕ → ℕ → Book
-bookBy b frame original = withReceived b (receivedBy b frame original)
+bookBy b frame original = withHeard b (marksBy b frame original) (receivedBy b frame original)
 
 -- ---- the records
 

@@ -9,7 +9,8 @@ use lib.ListN.{length, getD, drop, length-map, List·getD-append, List·getD-map
 use lib.Seq.{getD-drop, getD-append-add}
 use Rattle.key_book.specs.Limits.{slotSize}
 use Rattle.key_book.specs.Book.{Book, Sized}
-use Rattle.book_card.specs.Card.{Row, cardOf, emptyRow, InOrder}
+use Rattle.book_card.specs.declared.CardForm.{CardForm}
+use Rattle.book_card.specs.Card.{Row, emptyRow, InOrder}
 use Rattle.book_card.specs.Reader.{readCard}
 use Rattle.book_card.specs.Reading.{slotsOf, loaded}
 use Rattle.book_card.specs.declared.ReadAnswer.the-variants.{Rows}
@@ -21,7 +22,7 @@ use Rattle.book_card.proofs.Slots.{Fit, slots-length, slots-at}
 use Rattle.octets.specs.Bytes.{written, filled}
 use Rattle.octets.proofs.Written.{length-written, written-front}
 use Rattle.octets.proofs.Filled.{length-filled, filled-in, filled-behind}
-use Rattle.card_laws.proofs.Largest.{card-bytes}
+use Rattle.card_laws.proofs.Largest.{is-bytes}
 
 -- elements written at the front of a list, and the old ones behind them
 front-new : (new old : List ℕ) (k : ℕ) → k < length new → getD (written 0 new old) k 0 ≡ getD new k 0
@@ -58,7 +59,7 @@ slot-at rows old k i f h l =
     ∙ ap (λ (x : List ℕ). getD x i 0) (slots-at rows k f h)
     ∙ List·getD-append slot (drop (slotSize * suc k) (slotsOf rows)) 0 i (omega arith)
 
-module _ (b : Book) (z : Sized b) (rows : List Row) (o : InOrder rows) (room : length rows ≤ length (b .ids)) where
+module _ {form : CardForm} (b : Book) (z : Sized b) (rows : List Row) (o : InOrder form rows) (room : length rows ≤ length (b .ids)) where
   fit : Fit rows
   fit k h = o .fit k h .key-to
 
@@ -69,6 +70,7 @@ module _ (b : Book) (z : Sized b) (rows : List Row) (o : InOrder rows) (room : l
       rw (loaded-is b rows) (record {
         id = field-at (λ (r : Row). r .id) refl rows (b .ids) k h;
         key-size = field-at (λ (r : Row). length (r .key)) refl rows (b .lengths) k h;
+        mark = field-at (λ (r : Row). r .mark) refl rows (b .marks) k h;
         received = field-at (λ (r : Row). r .received) refl rows (b .received) k h;
         sent = field-at (λ (r : Row). r .sent) refl rows (b .sent) k h;
         key = λ i l. slot-at rows (b .store) k i fit h (omega arith) ∙ filled-in slotSize key t i l;
@@ -84,6 +86,7 @@ module _ (b : Book) (z : Sized b) (rows : List Row) (o : InOrder rows) (room : l
         ids = one (λ (r : Row). r .id) (b .ids) refl;
         lengths = one (λ (r : Row). length (r .key)) (b .lengths) (z .lengths-agree);
         store = front-left (slotsOf rows) (b .store) (slotSize * length rows) s (omega (arith, z .store-agrees));
+        marks = one (λ (r : Row). r .mark) (b .marks) (z .marks-agree);
         received = one (λ (r : Row). r .received) (b .received) (z .received-agree);
         sent = one (λ (r : Row). r .sent) (b .sent) (z .sent-agree);
       })
@@ -92,12 +95,12 @@ module _ (b : Book) (z : Sized b) (rows : List Row) (o : InOrder rows) (room : l
   rows-read = record { count = refl; in-use = ap (λ (c : Book). c .rows) (loaded-is b rows); row = row-set; left = rows-left }
 
 pub read-says : ReadSays
-read-says b card n g rows o e = on (rw g at (read-case b card))
+read-says b card n g form rows w = on (rw g at (read-case b card))
   where
     reads : readCard card ≡ some rows
-    reads = ap readCard e ∙ card-says (cardOf rows) (card-bytes rows o) rows .1 (o, refl)
+    reads = card-says card (is-bytes form rows card w) rows .1 (form, w)
 
     on : {m : ℕ} {c : Book} → ReadCase b card (Rows m) c → RowsRead b rows m c
     on (read z others f l) =
         let s : others ≡ rows = Option·some-injective _ _ (sym f ∙ reads) in
-        rw s (rows-read b z rows o (rw (← s) l))
+        rw s (rows-read b z rows (w .order) (rw (← s) l))

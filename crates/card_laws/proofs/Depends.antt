@@ -4,6 +4,7 @@ use Prim.Native.Nat.{ℕ, _<_}
 use native.Mathlib.Omega.{arith}
 use Rattle.key_book.specs.Book.{Book, Sound}
 use Rattle.key_book.proofs.Says.{key-depends}
+use Rattle.book_card.specs.Card.{rowWith}
 use Rattle.book_card.specs.Writing.{rowAt, rowsOf}
 use Rattle.book_card.proofs.Writes.{row-is, rows-count, rows-are}
 use Rattle.book_card.proofs.Ends.{written-alike}
@@ -13,10 +14,11 @@ module _ (b c : Book) (s : Sound b) (t : Sound c) (a : SameRows b c) where
   same-row : (k : ℕ) → k < b .rows → rowAt b k ≡ rowAt c k
   same-row k h =
       let i = a .same-id k h in
+      let m = a .same-mark k h in
       let r = a .same-received k h in
       let n = a .same-sent k h in
       let q = key-depends b c s t k (a .same-key k h) in
-      λ j. record { id = i j; received = r j; sent = n j; key = q j }
+      λ j. rowWith (i j) (m j) (r j) (n j) (q j)
 
   same-rows : rowsOf b ≡ rowsOf c
   same-rows =

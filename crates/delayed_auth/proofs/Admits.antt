@@ -80,6 +80,7 @@ module _ (b : Book) (m : List ℕ) where
 
 pub record RowFacts (b : Book) (k : ℕ) : Type 0 where
   pub few : k < roomMost
+  pub in-marks : k < length (b .marks)
   pub in-received : k < length (b .received)
   pub in-sent : k < length (b .sent)
   pub key-short : length (keyOf b k) ≤ keyMost
@@ -94,6 +95,7 @@ row-facts b id k s e =
     let q = key-says b w k u in
     record {
       few = omega (arith, i .in-ids, w .sizes .room);
+      in-marks = i .in-marks;
       in-received = i .in-received;
       in-sent = i .in-sent;
       key-short = omega (arith, q .to-slot);

@@ -5,10 +5,7 @@ use mathlib.Core.Logic.{_≢_}
 use mathlib.Core.Bool.{Bool, true, false}
 use mathlib.Core.List.{List}
 use mathlib.Core.Option.{Option, none, some}
-use Prim.Native.Nat.{ℕ, _≤_, _<_}
-use borrow.Author.Tests.{lt-ltb, le-ltb, ltb-true, ltb-false}
-use lib.Dec.{ltb}
-use lib.ListN.{getD}
+use Prim.Native.Nat.{ℕ}
 use Rattle.refusal.specs.declared.Refusal.{Refusal}
 use Rattle.refusal.specs.declared.Refusal.the-variants.{UnknownSecret, Replay, WrongMac}
 use Rattle.hmac_md5.specs.Hmac.{hmac}
@@ -19,31 +16,31 @@ use Rattle.key_book.specs.Book.{Book, rowOf, keyOf}
 use Rattle.delayed_auth.specs.declared.Verdict.{Verdict}
 use Rattle.delayed_auth.specs.declared.Verdict.the-variants.{Accepted, Refused}
 use Rattle.delayed_auth.specs.Admit.{admittedSaid, admittedForm}
-use Rattle.delayed_auth.specs.Check.{sameBytes, judgedBy, judgedRow, judgedSaid, checkOf, receivedAfter}
+use Rattle.delayed_auth.specs.Check.{sameBytes, newTo, judgedBy, judgedRow, judgedSaid, checkOf, marksAfter, receivedAfter}
 use Rattle.delayed_auth.proofs.Macs.{same-equal, same-differ, equal-same, differ-same}
 use Rattle.delayed_auth.proofs.Admits.{form-said, RowFacts, said-facts}
 
 pub data CheckCase (b : Book) (m : List ℕ) : Verdict → Type 0 where
   check-refused : {r : Refusal} → refused r ≡ admittedSaid b m → CheckCase b m (Refused r)
   check-unknown : {c id : ℕ} {mac : List ℕ} → says c id mac ≡ admittedSaid b m → rowOf b id ≡ none → CheckCase b m (Refused UnknownSecret)
-  check-replay : {c id k : ℕ} {mac : List ℕ} → says c id mac ≡ admittedSaid b m → rowOf b id ≡ some k → c ≤ getD (b .received) k 0
+  check-replay : {c id k : ℕ} {mac : List ℕ} → says c id mac ≡ admittedSaid b m → rowOf b id ≡ some k → newTo b k c ≡ false
       → CheckCase b m (Refused Replay)
-  check-wrong : {c id k : ℕ} {mac : List ℕ} → says c id mac ≡ admittedSaid b m → rowOf b id ≡ some k → getD (b .received) k 0 < c
+  check-wrong : {c id k : ℕ} {mac : List ℕ} → says c id mac ≡ admittedSaid b m → rowOf b id ≡ some k → newTo b k c ≡ true
       → mac ≢ hmac (keyOf b k) (imageOf m) → CheckCase b m (Refused WrongMac)
-  check-accepts : {c id k : ℕ} {mac : List ℕ} → says c id mac ≡ admittedSaid b m → rowOf b id ≡ some k → getD (b .received) k 0 < c
+  check-accepts : {c id k : ℕ} {mac : List ℕ} → says c id mac ≡ admittedSaid b m → rowOf b id ≡ some k → newTo b k c ≡ true
       → mac ≡ hmac (keyOf b k) (imageOf m) → CheckCase b m (Accepted k c)
 
 module _ (b : Book) (m : List ℕ) where
   row-case : (c id : ℕ) (mac : List ℕ) → says c id mac ≡ admittedSaid b m → (o : Option ℕ) → rowOf b id ≡ o → CheckCase b m (judgedRow b m c mac o)
   unfolding judgedRow
   row-case c id mac e none f = check-unknown e f
-  row-case c id mac e (some k) f = on (ltb (getD (b .received) k 0) c) refl (sameBytes mac (hmac (keyOf b k) (imageOf m))) refl
+  row-case c id mac e (some k) f = on (newTo b k c) refl (sameBytes mac (hmac (keyOf b k) (imageOf m))) refl
     where
-      on : (above : Bool) → ltb (getD (b .received) k 0) c ≡ above → (right : Bool) → sameBytes mac (hmac (keyOf b k) (imageOf m)) ≡ right
-          → CheckCase b m (judgedBy k c above right)
-      on false p right q = check-replay e f (ltb-false _ _ p)
-      on true p false q = check-wrong e f (ltb-true _ _ p) (same-differ _ _ q)
-      on true p true q = check-accepts e f (ltb-true _ _ p) (same-equal _ _ q)
+      on : (new : Bool) → newTo b k c ≡ new → (right : Bool) → sameBytes mac (hmac (keyOf b k) (imageOf m)) ≡ right
+          → CheckCase b m (judgedBy k c new right)
+      on false p right q = check-replay e f p
+      on true p false q = check-wrong e f p (same-differ _ _ q)
+      on true p true q = check-accepts e f p (same-equal _ _ q)
 
   pub check-case : CheckCase b m (checkOf b m)
   unfolding checkOf judgedSaid
@@ -65,11 +62,11 @@ module _ (b : Book) (m : List ℕ) where
   unfolding judgedSaid judgedRow
   case-check v (check-refused {r} e) = judged-said (refused r) e
   case-check v (check-unknown {c} {id} {mac} e f) = judged-row c id mac none e f
-  case-check v (check-replay {c} {id} {k} {mac} e f h) = rw (le-ltb (getD (b .received) k 0) c h) at (judged-row c id mac (some k) e f)
+  case-check v (check-replay {c} {id} {k} {mac} e f h) = rw h at (judged-row c id mac (some k) e f)
   case-check v (check-wrong {c} {id} {k} {mac} e f h g) =
-      rw (lt-ltb (getD (b .received) k 0) c h, differ-same mac (hmac (keyOf b k) (imageOf m)) g) at (judged-row c id mac (some k) e f)
+      rw (h, differ-same mac (hmac (keyOf b k) (imageOf m)) g) at (judged-row c id mac (some k) e f)
   case-check v (check-accepts {c} {id} {k} {mac} e f h g) =
-      rw (lt-ltb (getD (b .received) k 0) c h, equal-same mac (hmac (keyOf b k) (imageOf m)) g) at (judged-row c id mac (some k) e f)
+      rw (h, equal-same mac (hmac (keyOf b k) (imageOf m)) g) at (judged-row c id mac (some k) e f)
 
   -- 1 to 9, by the form
   pub form-checked : (r : Refusal) → FormRefused r ≡ admittedForm b m → Refused r ≡ checkOf b m
@@ -81,6 +78,8 @@ module _ (b : Book) (m : List ℕ) where
       on : CheckCase b m (Accepted k c) → RowFacts b k
       on (check-accepts {c} {id} {k} {mac} e f h g) = said-facts b m c id k mac e f
 
-  -- what the entry returns, and what it leaves in the received counters
-  pub check-ends : (v : Verdict) → v ≡ checkOf b m → (v ≡ checkOf b m) × (receivedAfter v (b .received) ≡ receivedAfter (checkOf b m) (b .received))
-  check-ends v e = (e, ap (λ (x : Verdict). receivedAfter x (b .received)) e)
+  -- what the entry returns, and what it leaves in the marks and in the received counters
+  pub check-ends : (v : Verdict) → v ≡ checkOf b m
+      → (v ≡ checkOf b m)
+      × ((marksAfter v (b .marks) ≡ marksAfter (checkOf b m) (b .marks)) × (receivedAfter v (b .received) ≡ receivedAfter (checkOf b m) (b .received)))
+  check-ends v e = (e, (ap (λ (x : Verdict). marksAfter x (b .marks)) e, ap (λ (x : Verdict). receivedAfter x (b .received)) e))

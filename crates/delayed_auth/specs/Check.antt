@@ -1,17 +1,19 @@
 -- What a check answers (docs/RULES.md, 'Check'; RFC 3118, section 5.3): numbers 1 to 12 in their order, else the row and the counter; and
--- what it stores. Nothing but the named row's received counter changes, and that only where the message is accepted.
+-- what it stores. Nothing but the named row's mark and received counter changes, and these only where the message is accepted.
 use Prim.Native.Nat.{ℕ}
 use mathlib.Core.Bool.{Bool, true, false, _&&_}
 use mathlib.Core.List.{List, [], _∷_}
 use mathlib.Core.Option.{Option, none, some}
-use lib.Dec.{ltb, eqb}
+use lib.Dec.{eqb}
 use lib.ListN.{getD, set}
 use Rattle.refusal.specs.Number.{numberOf, done}
 use Rattle.refusal.specs.declared.Refusal.the-variants.{UnknownSecret, Replay, WrongMac}
 use Rattle.hmac_md5.specs.Hmac.{hmac}
 use Rattle.dhcp_message.specs.Said.{Said, refused, says}
 use Rattle.dhcp_message.specs.Image.{imageOf}
-use Rattle.key_book.specs.Book.{Book, rowOf, keyOf}
+use Rattle.dhcp_message.specs.Replay.{isNew}
+use Rattle.key_book.specs.Limits.{heard}
+use Rattle.key_book.specs.Book.{Book, heardAt, rowOf, keyOf}
 use Rattle.delayed_auth.specs.Admit.{admittedSaid}
 use Rattle.delayed_auth.specs.declared.Verdict.{Verdict}
 use Rattle.delayed_auth.specs.declared.Verdict.the-variants.{Accepted, Refused}
@@ -23,9 +25,12 @@ sameBytes [] (y ∷ ys) = false
 sameBytes (x ∷ xs) [] = false
 sameBytes (x ∷ xs) (y ∷ ys) = eqb x y && sameBytes xs ys
 
--- 11 and 12, by whether the counter is above the stored one and whether the MAC is right. With replay method 0 the counter rises with every
--- message (RFC 3118, section 2), so that a counter equal to the one accepted last is a replay too.
-abbrev pub judgedBy : ℕ → ℕ → (above right : Bool) → Verdict
+-- whether a counter is new to row k: the row is not heard, or its received counter is below
+abbrev pub newTo : Book → ℕ → ℕ → Bool
+newTo b k counter = isNew (heardAt b k) (getD (b .received) k 0) counter
+
+-- 11 and 12, by whether the counter is new to the row and whether the MAC is right
+abbrev pub judgedBy : ℕ → ℕ → (new right : Bool) → Verdict
 judgedBy row counter false right = Refused Replay
 judgedBy row counter true false = Refused WrongMac
 judgedBy row counter true true = Accepted row counter
@@ -33,7 +38,7 @@ judgedBy row counter true true = Accepted row counter
 -- 10, and then by the row
 unfoldable pub judgedRow : Book → List ℕ → (counter : ℕ) (mac : List ℕ) → Option ℕ → Verdict
 judgedRow b m counter mac none = Refused UnknownSecret
-judgedRow b m counter mac (some k) = judgedBy k counter (ltb (getD (b .received) k 0) counter) (sameBytes mac (hmac (keyOf b k) (imageOf m)))
+judgedRow b m counter mac (some k) = judgedBy k counter (newTo b k counter) (sameBytes mac (hmac (keyOf b k) (imageOf m)))
 
 -- 1 to 9, and then by what the message says
 unfoldable pub judgedSaid : Book → List ℕ → Said → Verdict
@@ -42,6 +47,11 @@ judgedSaid b m (says counter id mac) = judgedRow b m counter mac (rowOf b id)
 
 unfoldable pub checkOf : Book → List ℕ → Verdict
 checkOf b m = judgedSaid b m (admittedSaid b m)
+
+-- the marks after an answer
+abbrev pub marksAfter : Verdict → List ℕ → List ℕ
+marksAfter (Accepted row counter) marks = set marks row heard
+marksAfter (Refused r) marks = marks
 
 -- the received counters after an answer
 abbrev pub receivedAfter : Verdict → List ℕ → List ℕ

@@ -1,10 +1,10 @@
-// Check: judges a message by 1 to 12, and stores the counter of an accepted one. docs/RULES.md, 'Check'; RFC 3118, section 5.3.
+// Check: judges a message by 1 to 12, and stores the counter of an accepted one and that its row is heard. docs/RULES.md, 'Check'; RFC 3118, section 5.3.
 ghost use mathlib.Core.Path.{_≡_};
 ghost use lib.ListN.{length};
 ghost use Rattle.dhcp_message.specs.Layout.{macSize};
 ghost use Rattle.key_book.specs.Book.{bookOf};
 ghost use Rattle.delayed_auth.specs.Admit.{admittedForm};
-ghost use Rattle.delayed_auth.specs.Check.{sameBytes, checkOf, receivedAfter};
+ghost use Rattle.delayed_auth.specs.Check.{sameBytes, checkOf, marksAfter, receivedAfter};
 use crate::Verdict;
 use crate::admitted;
 use crate::mac_of;
@@ -27,13 +27,14 @@ fn same_mac(a: [u8; 16], b: &[u8]) -> bool
     same
 }
 
-// 10 to 12, of a message that passes 1 to 9. The counter is looked at before the MAC is computed (RFC 3118, section 5.3). It must be above the
-// stored one: with replay method 0 the counter rises with every message (RFC 3118, section 2), so nothing new comes with the counter that was
-// accepted last, and what comes with it was seen before.
+// 10 to 12, of a message that passes 1 to 9. The counter is looked at before the MAC is computed (RFC 3118, section 5.3). On a heard row it must be
+// above the stored one: with replay method 0 the counter rises with every message (RFC 3118, section 2), so nothing new comes with the counter that
+// was accepted last, and what comes with it was seen before. On a row that is not heard any counter is new.
 fn judged_full(
     ids: &[u32],
     lengths: &[u8],
     store: &[u8],
+    marks: &[u8],
     received: &[u64],
     sent: &[u64],
     rows: usize,
@@ -41,11 +42,11 @@ fn judged_full(
     auth: Auth,
 ) -> Verdict
     requires { ⌜
-        (let b = bookOf (now ids) (now lengths) (now store) (now received) (now sent) rows in
+        (let b = bookOf (now ids) (now lengths) (now store) (now marks) (now received) (now sent) rows in
         Form.Full auth ≡ admittedForm b (now message))
         ⌝ }
     ensures { λ r. ⌜
-        (let b = bookOf (now (ids .entry)) (now (lengths .entry)) (now (store .entry)) (now (received .entry)) (now (sent .entry)) rows in
+        (let b = bookOf (now (ids .entry)) (now (lengths .entry)) (now (store .entry)) (now (marks .entry)) (now (received .entry)) (now (sent .entry)) rows in
         r ≡ checkOf b (now (message .entry)))
         ⌝ }
 {
@@ -53,7 +54,8 @@ fn judged_full(
     let Found::At(row) = found else {
         return Verdict::Refused(Refusal::UnknownSecret);
     };
-    if auth.counter <= received[row] {
+    let heard = marks[row] == key_book::HEARD;
+    if !dhcp_message::is_new(heard, received[row], auth.counter) {
         return Verdict::Refused(Refusal::Replay);
     }
     let mac = mac_of(key_book::key_of(store, lengths, row), message, auth);
@@ -70,45 +72,62 @@ fn judged(
     ids: &[u32],
     lengths: &[u8],
     store: &[u8],
+    marks: &[u8],
     received: &[u64],
     sent: &[u64],
     rows: usize,
     message: &[u8],
 ) -> Verdict
     ensures { λ r. ⌜
-        (let b = bookOf (now (ids .entry)) (now (lengths .entry)) (now (store .entry)) (now (received .entry)) (now (sent .entry)) rows in
+        (let b = bookOf (now (ids .entry)) (now (lengths .entry)) (now (store .entry)) (now (marks .entry)) (now (received .entry)) (now (sent .entry)) rows in
         r ≡ checkOf b (now (message .entry)))
         ⌝ }
 {
-    let form = admitted(ids, lengths, store, received, sent, rows, message);
+    let form = admitted(ids, lengths, store, marks, received, sent, rows, message);
     match form {
         Form::Refused(refusal) => Verdict::Refused(refusal),
-        Form::Full(auth) => judged_full(ids, lengths, store, received, sent, rows, message, auth),
+        Form::Full(auth) => judged_full(
+            ids,
+            lengths,
+            store,
+            marks,
+            received,
+            sent,
+            rows,
+            message,
+            auth,
+        ),
     }
 }
 
-// Judges a message, and stores its counter as received where it is accepted.
+// Judges a message, and where it is accepted stores its counter as received and marks its row heard.
 pub fn check(
     ids: &[u32],
     lengths: &[u8],
     store: &[u8],
+    marks: &mut [u8],
     received: &mut [u64],
     sent: &[u64],
     rows: usize,
     message: &[u8],
 ) -> Verdict
     ensures answer { λ r. ⌜
-        (let b = bookOf (now (ids .entry)) (now (lengths .entry)) (now (store .entry)) (now (received .entry)) (now (sent .entry)) rows in
+        (let b = bookOf (now (ids .entry)) (now (lengths .entry)) (now (store .entry)) (now (marks .entry)) (now (received .entry)) (now (sent .entry)) rows in
         r ≡ checkOf b (now (message .entry)))
         ⌝ }
+    ensures marked { λ _. ⌜
+        (let b = bookOf (now (ids .entry)) (now (lengths .entry)) (now (store .entry)) (now (marks .entry)) (now (received .entry)) (now (sent .entry)) rows in
+        now (marks .exit) ≡ marksAfter (checkOf b (now (message .entry))) (now (marks .entry)))
+        ⌝ }
     ensures stored { λ _. ⌜
-        (let b = bookOf (now (ids .entry)) (now (lengths .entry)) (now (store .entry)) (now (received .entry)) (now (sent .entry)) rows in
+        (let b = bookOf (now (ids .entry)) (now (lengths .entry)) (now (store .entry)) (now (marks .entry)) (now (received .entry)) (now (sent .entry)) rows in
         now (received .exit) ≡ receivedAfter (checkOf b (now (message .entry))) (now (received .entry)))
         ⌝ }
 {
-    let verdict = judged(ids, lengths, store, received, sent, rows, message);
+    let verdict = judged(ids, lengths, store, marks, received, sent, rows, message);
     match verdict {
         Verdict::Accepted(row, counter) => {
+            marks[row] = key_book::HEARD;
             received[row] = counter;
             Verdict::Accepted(row, counter)
         }

@@ -13,17 +13,18 @@ pub fn named_row(
     ids: &[u32],
     lengths: &[u8],
     store: &[u8],
+    marks: &[u8],
     received: &[u64],
     sent: &[u64],
     rows: usize,
     message: &[u8],
 ) -> Keyed
     ensures { λ r. ⌜
-        (let b = bookOf (now (ids .entry)) (now (lengths .entry)) (now (store .entry)) (now (received .entry)) (now (sent .entry)) rows in
+        (let b = bookOf (now (ids .entry)) (now (lengths .entry)) (now (store .entry)) (now (marks .entry)) (now (received .entry)) (now (sent .entry)) rows in
         r ≡ keyedOf b (now (message .entry)))
         ⌝ }
 {
-    let form = admitted(ids, lengths, store, received, sent, rows, message);
+    let form = admitted(ids, lengths, store, marks, received, sent, rows, message);
     match form {
         Form::Refused(refusal) => Keyed::NoKey(refusal),
         Form::Full(auth) => {
@@ -41,21 +42,22 @@ pub fn key_of_message<'k, 'l>(
     ids: &'l [u32],
     lengths: &'l [u8],
     store: &'k [u8],
+    marks: &'l [u8],
     received: &'l [u64],
     sent: &'l [u64],
     rows: usize,
     message: &'l [u8],
 ) -> &'k [u8]
     ensures content { λ r. ⌜
-        (let b = bookOf (now (ids .entry)) (now (lengths .entry)) (now (store .entry)) (now (received .entry)) (now (sent .entry)) rows in
+        (let b = bookOf (now (ids .entry)) (now (lengths .entry)) (now (store .entry)) (now (marks .entry)) (now (received .entry)) (now (sent .entry)) rows in
         now r ≡ keyBytes b (keyedOf b (now (message .entry))))
         ⌝ }
     ensures place { λ r. ⌜
-        (let b = bookOf (now (ids .entry)) (now (lengths .entry)) (now (store .entry)) (now (received .entry)) (now (sent .entry)) rows in
+        (let b = bookOf (now (ids .entry)) (now (lengths .entry)) (now (store .entry)) (now (marks .entry)) (now (received .entry)) (now (sent .entry)) rows in
         r .ptr ≡ movedOn (store .entry .ptr) (keyOffset (keyedOf b (now (message .entry)))))
         ⌝ }
 {
-    let key = named_row(ids, lengths, store, received, sent, rows, message);
+    let key = named_row(ids, lengths, store, marks, received, sent, rows, message);
     match key {
         Keyed::Row(row) => key_book::key_of(store, lengths, row),
         Keyed::NoKey(_) => &store[..0],
@@ -67,17 +69,18 @@ pub fn key_number(
     ids: &[u32],
     lengths: &[u8],
     store: &[u8],
+    marks: &[u8],
     received: &[u64],
     sent: &[u64],
     rows: usize,
     message: &[u8],
 ) -> u8
     ensures { λ r. ⌜
-        (let b = bookOf (now (ids .entry)) (now (lengths .entry)) (now (store .entry)) (now (received .entry)) (now (sent .entry)) rows in
+        (let b = bookOf (now (ids .entry)) (now (lengths .entry)) (now (store .entry)) (now (marks .entry)) (now (received .entry)) (now (sent .entry)) rows in
         r ≡ keyNumber (keyedOf b (now (message .entry))))
         ⌝ }
 {
-    let key = named_row(ids, lengths, store, received, sent, rows, message);
+    let key = named_row(ids, lengths, store, marks, received, sent, rows, message);
     match key {
         Keyed::Row(_) => 0,
         Keyed::NoKey(refusal) => refusal::number(refusal),

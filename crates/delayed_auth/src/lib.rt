@@ -2,7 +2,7 @@
 // Here are the answers and what the entries share; each entry has its file.
 // Not here: reading a message (dhcp_message), the MAC function (hmac_md5) and the book (key_book).
 //
-// Every entry takes the lent book as ids, key lengths, key store, received counters, sent counters and row count, in this order.
+// Every entry takes the lent book as ids, key lengths, key store, marks, received counters, sent counters and row count, in this order.
 mod checks;
 mod keys;
 mod seals;
@@ -53,17 +53,18 @@ pub(crate) fn admitted(
     ids: &[u32],
     lengths: &[u8],
     store: &[u8],
+    marks: &[u8],
     received: &[u64],
     sent: &[u64],
     rows: usize,
     message: &[u8],
 ) -> Form
     ensures { λ r. ⌜
-        (let b = bookOf (now (ids .entry)) (now (lengths .entry)) (now (store .entry)) (now (received .entry)) (now (sent .entry)) rows in
+        (let b = bookOf (now (ids .entry)) (now (lengths .entry)) (now (store .entry)) (now (marks .entry)) (now (received .entry)) (now (sent .entry)) rows in
         r ≡ admittedForm b (now (message .entry)))
         ⌝ }
 {
-    if !key_book::is_sound(ids, lengths, store, received, sent, rows) {
+    if !key_book::is_sound(ids, lengths, store, marks, received, sent, rows) {
         return Form::Refused(Refusal::UnsoundBook);
     }
     dhcp_message::form_of(message)

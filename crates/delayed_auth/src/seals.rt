@@ -20,6 +20,7 @@ fn planned(
     ids: &[u32],
     lengths: &[u8],
     store: &[u8],
+    marks: &[u8],
     received: &[u64],
     sent: &[u64],
     rows: usize,
@@ -27,11 +28,11 @@ fn planned(
     message: &[u8],
 ) -> Plan
     ensures { λ r. ⌜
-        (let b = bookOf (now (ids .entry)) (now (lengths .entry)) (now (store .entry)) (now (received .entry)) (now (sent .entry)) rows in
+        (let b = bookOf (now (ids .entry)) (now (lengths .entry)) (now (store .entry)) (now (marks .entry)) (now (received .entry)) (now (sent .entry)) rows in
         r ≡ planOf b id (now (message .entry)))
         ⌝ }
 {
-    let form = admitted(ids, lengths, store, received, sent, rows, message);
+    let form = admitted(ids, lengths, store, marks, received, sent, rows, message);
     match form {
         Form::Refused(refusal) => Plan::NotReady(refusal),
         Form::Full(auth) => {
@@ -72,6 +73,7 @@ pub fn seal(
     ids: &[u32],
     lengths: &[u8],
     store: &[u8],
+    marks: &[u8],
     received: &[u64],
     sent: &mut [u64],
     rows: usize,
@@ -79,19 +81,29 @@ pub fn seal(
     message: &mut [u8],
 ) -> Sealing
     ensures answer { λ r. ⌜
-        (let b = bookOf (now (ids .entry)) (now (lengths .entry)) (now (store .entry)) (now (received .entry)) (now (sent .entry)) rows in
+        (let b = bookOf (now (ids .entry)) (now (lengths .entry)) (now (store .entry)) (now (marks .entry)) (now (received .entry)) (now (sent .entry)) rows in
         r ≡ sealingOf (sealOf b id (now (message .entry))))
         ⌝ }
     ensures sealed { λ _. ⌜
-        (let b = bookOf (now (ids .entry)) (now (lengths .entry)) (now (store .entry)) (now (received .entry)) (now (sent .entry)) rows in
+        (let b = bookOf (now (ids .entry)) (now (lengths .entry)) (now (store .entry)) (now (marks .entry)) (now (received .entry)) (now (sent .entry)) rows in
         now (message .exit) ≡ messageAfter (sealOf b id (now (message .entry))) (now (message .entry)))
         ⌝ }
     ensures stored { λ _. ⌜
-        (let b = bookOf (now (ids .entry)) (now (lengths .entry)) (now (store .entry)) (now (received .entry)) (now (sent .entry)) rows in
+        (let b = bookOf (now (ids .entry)) (now (lengths .entry)) (now (store .entry)) (now (marks .entry)) (now (received .entry)) (now (sent .entry)) rows in
         now (sent .exit) ≡ sentAfter (sealOf b id (now (message .entry))) (now (sent .entry)))
         ⌝ }
 {
-    let plan = planned(ids, lengths, store, received, sent, rows, id, message);
+    let plan = planned(
+        ids,
+        lengths,
+        store,
+        marks,
+        received,
+        sent,
+        rows,
+        id,
+        message,
+    );
     match plan {
         Plan::NotReady(refusal) => Sealing::Unsealed(refusal),
         Plan::Ready(auth, row) => {

@@ -7,13 +7,13 @@ use mathlib.Core.Bool.{true}
 use mathlib.Core.List.{List}
 use Rattle.dhcp_message.specs.Said.{refused, says, saidOf, formOf, formNumber}
 use Rattle.dhcp_message.proofs.Examples.{bench-examples}
-use Rattle.key_book.specs.Book.{Sound, allBelow, sized, ascending, keySizes, sound}
+use Rattle.key_book.specs.Book.{Sound, allBelow, sized, ascending, keySizes, markFits, marksFit, sound}
 use Rattle.key_book.proofs.Says.{sound-says}
 use Rattle.key_book.proofs.Computed.{example-10}
 use Rattle.delayed_auth.specs.declared.Verdict.{Verdict}
 use Rattle.delayed_auth.specs.Check.{checkOf, verdictNumber}
 use Rattle.card_laws.specs.Examples.{bookB}
-use Rattle.card_laws.proofs.Computed.{example-1, example-2}
+use Rattle.card_laws.proofs.Computed.{example-1, marked-cards, example-2}
 use Rattle.demands.specs.Bench.{BenchTable}
 use Rattle.demands.proofs.Below.{said-form}
 use Rattle.demands.proofs.Computing.{computing}
@@ -21,7 +21,7 @@ use Rattle.demands.proofs.Stages.{CheckEnd, check-unsound, check-refuse
 use Rattle.demands.proofs.Stages.{check-end}
 
 b-sound : sound bookB ≡ true
-unfolding sound sized ascending keySizes allBelow
+unfolding sound sized ascending keySizes markFits marksFit allBelow
 b-sound = refl
 
 good : Sound bookB
@@ -48,6 +48,7 @@ pub bench-table : BenchTable
 unfolding computing
 bench-table = record {
   example-1 = example-1;
+  example-1-marks = marked-cards;
   example-2 = example-2;
   examples-3-to-7 = bench-examples;
   on-book-B = λ m n l h. by-form m n l h (checkOf bookB m) (check-end bookB m);

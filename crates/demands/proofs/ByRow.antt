@@ -1,5 +1,5 @@
--- Checks and seals as steps on channels. What a step reads is one row's key with its received counter, or with its sent counter, and that
--- counter it writes: its channel. Here is all that proofs/Runs.antt asks, for the books with the ids of one book b₀.
+-- Checks and seals as steps on channels. What a step reads is one row's key with its mark and its received counter, or with its sent counter, and all
+-- but the key it writes: its channel. Here is all that proofs/Runs.antt asks, for the books with the ids of one book b₀.
 use mathlib.Core.Path.{_≡_, refl, sym, ap, _∙_}
 use mathlib.Core.Logic.{_≢_}
 use mathlib.Core.Option.{Option, none, some, Option·map, Option·none-ne-some}
@@ -12,17 +12,19 @@ use lib.ListN.{length, getD, set}
 use lib.Seq.{getD-set-same, getD-set-other, set-out}
 use Rattle.dhcp_message.specs.Said.{named}
 use Rattle.dhcp_message.specs.Relay.{Relayed, unchanged}
+use Rattle.key_book.specs.Limits.{heard}
 use Rattle.key_book.specs.Book.{Book, rowOf, keyOf}
 use Rattle.delayed_auth.specs.declared.Verdict.{Verdict}
 use Rattle.delayed_auth.specs.declared.Verdict.the-variants.{Accepted, Refused}
-use Rattle.delayed_auth.specs.Check.{checkOf, receivedAfter}
+use Rattle.delayed_auth.specs.Check.{checkOf, marksAfter, receivedAfter}
 use Rattle.delayed_auth.specs.Seal.{Outcome, sealed, unsealed, sealOf, sealingOf, messageAfter, sentAfter}
 use Rattle.demands.specs.Demand3.{Step, check, seal, checked, wrote, answerOf, bookAfter, answers, ending, bookAt}
 use Rattle.demands.specs.Demand3.{Carried, same, relayed, OneSecret, checks, seals}
 use Rattle.demands.proofs.Below.{never}
+use Rattle.demands.proofs.Stages.{sealed-by}
 use Rattle.demands.proofs.Runs.{Walk, Local}
-use Rattle.demands.proofs.Steps.{SameIds, step-keeps, row-kept, received-room, sent-room, single, name-relayed}
-use Rattle.demands.proofs.Steps.{receivedRow, sentRow, check-reads, seal-reads, accepted-at, sealed-at}
+use Rattle.demands.proofs.Steps.{SameIds, step-keeps, row-kept, marks-room, received-room, sent-room, single, name-relayed}
+use Rattle.demands.proofs.Steps.{hearing, Hears, refuses, elsewhere, here, hears, receivedRow, sentRow, check-reads, seal-reads}
 
 -- the runs of specs/Demand3.antt
 abbrev pub walk : Walk answerOf bookAfter
@@ -46,21 +48,23 @@ pub data Channel : Type 0 where
 pub channel? : Discrete Channel
 channel? = Channel-discrete ℕ-discrete
 
-abbrev pub holds : Channel → Book → List ℕ × ℕ
+-- what a channel holds: the key, with the mark and the received counter or with the sent counter
+abbrev Held : Channel → Type 0
+Held (receives k) = List ℕ × (ℕ × ℕ)
+Held (sends k) = List ℕ × ℕ
+
+abbrev pub holds : (c : Channel) → Book → Held c
 holds (receives k) b = receivedRow k b
 holds (sends k) b = sentRow k b
 
--- a key, and one store into two lists of one size
-row-set : (x y : List ℕ) (a b : List ℕ) (r d k : ℕ) → length a ≡ length b → _≡_ {A = List ℕ × ℕ} (x, getD a k 0) (y, getD b k 0)
-    → _≡_ {A = List ℕ × ℕ} (x, getD (set a r d) k 0) (y, getD (set b r d) k 0)
-row-set x y a b r d k l e =
+-- one store into two lists of one size
+set-same : (a b : List ℕ) (r d k : ℕ) → length a ≡ length b → getD a k 0 ≡ getD b k 0 → getD (set a r d) k 0 ≡ getD (set b r d) k 0
+set-same a b r d k l e =
     elim (ℕ-discrete k r) [
       | no g ↦ rw (getD-set-other a r k d 0 g, getD-set-other b r k d 0 g) e
       | yes g ↦ elim (decLe (length a) r) [
         | yes q ↦ rw (set-out a r d q, set-out b r d (omega arith)) e
-        | no q ↦
-            let key : x ≡ y = ap (λ (z : List ℕ × ℕ). z .0) e in
-            rw (g, getD-set-same a r d 0 (omega arith), getD-set-same b r d 0 (omega arith), key)
+        | no q ↦ rw (g, getD-set-same a r d 0 (omega arith), getD-set-same b r d 0 (omega arith))
       ]
     ]
 
@@ -137,21 +141,20 @@ module _ (b₀ : Book) where
   other : (b : Book) (s : Step) (c : Channel) → SameIds b₀ b → channel s ≢ some c → holds c (bookAfter b s) ≡ holds c b
   unfolding channel
   other b (check m) (sends k) h g = refl
-  other b (check m) (receives k) h g = ap (λ (n : ℕ). (keyOf b k, n)) (on (checkOf b m) refl)
+  other b (check m) (receives k) h g = ap (λ (x : ℕ × ℕ). (keyOf b k, x)) (on (hears b (h .is-sound) m k))
     where
-      on : (v : Verdict) → checkOf b m ≡ v → getD (receivedAfter v (b .received)) k 0 ≡ getD (b .received) k 0
-      on (Refused r) e = refl
-      on (Accepted r d) e =
-          let w = accepted-at b m r d (h .is-sound) e in
-          let row = found-row (named m) (w .id) r (w .name) (sym (row-kept b₀ b h (w .id)) ∙ w .row) in
-          getD-set-other (b .received) r k d 0 (λ x. g (ap (Option·map receives) row ∙ ap (λ (y : ℕ). some (receives y)) (sym x)))
+      on : {v : Verdict} {x : ℕ × ℕ} → Hears b m k v x → x ≡ hearing k b
+      on refuses = refl
+      on (elsewhere w n) = refl
+      on (here w new) =
+          absurd (g (ap (Option·map receives) (found-row (named m) (w .id) k (w .form) (sym (row-kept b₀ b h (w .id)) ∙ w .secret))))
   other b (seal id m) (receives k) h g = refl
   other b (seal id m) (sends k) h g = ap (λ (n : ℕ). (keyOf b k, n)) (on (sealOf b id m) refl)
     where
       on : (o : Outcome) → sealOf b id m ≡ o → getD (sentAfter o (b .sent)) k 0 ≡ getD (b .sent) k 0
       on (unsealed r) e = refl
       on (sealed r d n) e =
-          let row = sym (row-kept b₀ b h id) ∙ sealed-at b id m r d n (h .is-sound) e in
+          let row = sym (row-kept b₀ b h id) ∙ sealed-by b id m r d n e .secret in
           getD-set-other (b .sent) r k d 0 (λ x. g (ap (Option·map sends) row ∙ ap (λ (y : ℕ). some (sends y)) (sym x)))
 
   module _ (a b : Book) (x : SameIds b₀ a) (y : SameIds b₀ b) where
@@ -167,23 +170,28 @@ module _ (b₀ : Book) where
     answer s t (check-alike {m = m} {n = n} q) h = ap checked (sym (same-check m n q h))
     answer s t (seal-alike {id = id} {m = m}) h = ap (λ (o : Outcome). wrote (sealingOf o) (messageAfter o m)) (same-seal id m h)
 
-    received-same : (v : Verdict) (k : ℕ) → receivedRow k a ≡ receivedRow k b
-        → _≡_ {A = List ℕ × ℕ} (keyOf a k, getD (receivedAfter v (a .received)) k 0) (keyOf b k, getD (receivedAfter v (b .received)) k 0)
-    received-same (Accepted r d) k e = row-set _ _ (a .received) (b .received) r d k (received-room b₀ a x ∙ sym (received-room b₀ b y)) e
-    received-same (Refused r) k e = e
+    -- one answer stores the same in both books
+    heard-same : (v : Verdict) (k : ℕ) → hearing k a ≡ hearing k b
+        → _≡_ {A = ℕ × ℕ} (getD (marksAfter v (a .marks)) k 0, getD (receivedAfter v (a .received)) k 0)
+        (getD (marksAfter v (b .marks)) k 0, getD (receivedAfter v (b .received)) k 0)
+    heard-same (Accepted r d) k e = λ i. (
+      set-same (a .marks) (b .marks) r heard k (marks-room b₀ a x ∙ sym (marks-room b₀ b y)) (λ j. e j .0) i,
+      set-same (a .received) (b .received) r d k (received-room b₀ a x ∙ sym (received-room b₀ b y)) (λ j. e j .1) i,
+    )
+    heard-same (Refused r) k e = e
 
-    sent-same : (o : Outcome) (k : ℕ) → sentRow k a ≡ sentRow k b
-        → _≡_ {A = List ℕ × ℕ} (keyOf a k, getD (sentAfter o (a .sent)) k 0) (keyOf b k, getD (sentAfter o (b .sent)) k 0)
-    sent-same (sealed r d n) k e = row-set _ _ (a .sent) (b .sent) r d k (sent-room b₀ a x ∙ sym (sent-room b₀ b y)) e
+    sent-same : (o : Outcome) (k : ℕ) → getD (a .sent) k 0 ≡ getD (b .sent) k 0
+        → getD (sentAfter o (a .sent)) k 0 ≡ getD (sentAfter o (b .sent)) k 0
+    sent-same (sealed r d n) k e = set-same (a .sent) (b .sent) r d k (sent-room b₀ a x ∙ sym (sent-room b₀ b y)) e
     sent-same (unsealed r) k e = e
 
     change : (s t : Step) → Alike s t → (c : Channel) → channel s ≡ some c → holds c a ≡ holds c b → holds c (bookAfter a s) ≡ holds c (bookAfter b t)
     change s t (check-alike q) (sends k) e f = f
     change s t (check-alike {m = m} {n = n} q) (receives k) e f =
-        rw (same-check m n q (λ d g. let z : d ≡ receives k = cc in rw z f)) (received-same (checkOf a m) k f)
+        rw (same-check m n q (λ d g. let z : d ≡ receives k = cc in rw z f)) (λ i. (f i .0, heard-same (checkOf a m) k (λ j. f j .1) i))
     change s t seal-alike (receives k) e f = f
     change s t (seal-alike {id = id} {m = m}) (sends k) e f =
-        rw (same-seal id m (λ d g. let z : d ≡ sends k = cc in rw z f)) (sent-same (sealOf b id m) k f)
+        rw (same-seal id m (λ d g. let z : d ≡ sends k = cc in rw z f)) (λ i. (f i .0, sent-same (sealOf b id m) k (λ j. f j .1) i))
 
   pub local : Local answerOf bookAfter channel holds (SameIds b₀) Alike
   local = record {

@@ -11,13 +11,15 @@ use Rattle.dhcp_message.specs.Options.{decodeAt}
 use Rattle.dhcp_message.specs.Message.{checkedTokens, checkedOf}
 use Rattle.dhcp_message.specs.Said.{saidBy, saidOf, named, formOf}
 use Rattle.dhcp_message.specs.Image.{imageOf}
-use Rattle.key_book.specs.Book.{allBelow, sized, ascending, keySizes, sound, placeFrom, rowIn, keyFits, keyIn}
+use Rattle.dhcp_message.specs.Replay.{isNew}
+use Rattle.key_book.specs.Book.{allBelow, sized, ascending, keySizes, markFits, marksFit, sound, placeFrom, rowIn, keyFits, keyIn}
 use Rattle.delayed_auth.specs.Admit.{admittedSaid, admittedForm}
 use Rattle.delayed_auth.specs.Check.{sameBytes, judgedRow, judgedSaid, checkOf}
 use Rattle.delayed_auth.specs.Seal.{planRow, planForm, planOf, sealedMessage, sealOf}
 
 unfoldable pub computing : ℕ
 unfolding rotl auxiliary wordNo additive rotations stepWith stepAt steps round compress loadTo load blocks md5 padded padding output masked hmac
-    written filled le value littleAt be bigAt decodeAt checkedTokens checkedOf saidBy saidOf named formOf imageOf allBelow sized ascending keySizes
-    sound placeFrom rowIn keyFits keyIn admittedSaid admittedForm sameBytes judgedRow judgedSaid checkOf planRow planForm planOf sealedMessage sealOf
+    written filled le value littleAt be bigAt decodeAt checkedTokens checkedOf saidBy saidOf named formOf imageOf isNew allBelow sized ascending keySizes
+    markFits marksFit sound placeFrom rowIn keyFits keyIn admittedSaid admittedForm sameBytes judgedRow judgedSaid checkOf planRow planForm planOf
+    sealedMessage sealOf
 computing = 0

@@ -7,12 +7,12 @@ use Rattle.demands.specs.Demand1.{Demand1}
 use Rattle.demands.proofs.DemandCheck.{check-number, check-keeps, key-number, key-empty}
 use Rattle.demands.proofs.DemandSeal.{seal-number, seal-keeps}
 use Rattle.demands.proofs.DemandDigests.{feed-number, finish-number, finish-zeros, digest-number, digest-zeros, hmac-number, hmac-zeros}
-use Rattle.demands.proofs.DemandCards.{read-number, read-keeps, write-number, write-keeps}
+use Rattle.demands.proofs.DemandCards.{read-number, read-keeps, write-number, write-keeps, move-number, move-keeps}
 
 pub demand-1 : Demand1
 demand-1 = record {
   check = check-number;
-  check-keeps = λ b m. check-keeps (checkOf b m) (b .received);
+  check-keeps = λ b m. check-keeps (checkOf b m) (b .marks) (b .received);
   key = key-number;
   key-empty = λ b m. key-empty b (keyedOf b m);
   seal = seal-number;
@@ -29,4 +29,6 @@ demand-1 = record {
   card-read-keeps = read-keeps;
   card-write = write-number;
   card-write-keeps = write-keeps;
+  card-move = move-number;
+  card-move-keeps = move-keeps;
 }

@@ -75,6 +75,7 @@ key-there b s m k w =
 pub demand-2 : Demand2
 demand-2 = record {
   accepted = λ b s m k c. (accepted-accepts b m k c, λ a. end-check b m _ (check-accepts s a));
+  marked = λ b s m k c a. rw (end-check b m _ (check-accepts s a));
   stored = λ b s m k c a. rw (end-check b m _ (check-accepts s a));
   keyed = λ b s m k. (keyed-names b m k, λ w. end-key b m _ (key-names s w));
   key-content = λ b s m k w. rw (end-key b m _ (key-names s w)) (key-there b s m k w);
@@ -92,7 +93,7 @@ demand-2 = record {
         mac = w .mac;
         form = ap saidOf (w .bytes) ∙ says-written m (w .auth) (w .form) c id (w .mac) size (omega (arith, w .left, w .next)) g;
         secret = r;
-        above = u;
+        new = u;
         right = w .right ∙ ap (λ (x : List ℕ). hmac x (imageOf n)) (sym q);
       };
 }

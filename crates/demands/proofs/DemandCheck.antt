@@ -1,11 +1,11 @@
 -- Demand 1 of check and of the key of a message: at each end the number applies and no lower one does.
-use mathlib.Core.Path.{_≡_, refl, sym, ap, _∙_}
+use mathlib.Core.Path.{_≡_, refl, sym, ap, ap₂, _∙_}
 use mathlib.Core.Logic.{_≢_}
+use mathlib.Core.Bool.{true, false, true≢false}
 use mathlib.Core.List.{List, []}
 use mathlib.Core.Option.{none, some, Option·none-ne-some, Option·some-injective}
 use Prim.Native.Nat.{ℕ, _<_, _≤_}
 use native.Mathlib.Omega.{arith}
-use lib.ListN.{getD}
 use Rattle.refusal.specs.Number.{numberOf, done}
 use Rattle.refusal.specs.Lowest.{NothingBelow, Lowest}
 use Rattle.refusal.specs.declared.Refusal.{Refusal}
@@ -24,13 +24,13 @@ use Rattle.delayed_auth.specs.declared.Verdict.{Verdict}
 use Rattle.delayed_auth.specs.declared.Verdict.the-variants.{Accepted, Refused}
 use Rattle.delayed_auth.specs.declared.Keyed.{Keyed}
 use Rattle.delayed_auth.specs.declared.Keyed.the-variants.{Row, NoKey}
-use Rattle.delayed_auth.specs.Check.{checkOf, receivedAfter, verdictNumber}
+use Rattle.delayed_auth.specs.Check.{newTo, checkOf, marksAfter, receivedAfter, verdictNumber}
 use Rattle.delayed_auth.specs.Key.{keyedOf, keyNumber, keyBytes, keyOffset}
 use Rattle.demands.specs.Accepts.{Names}
-use Rattle.demands.specs.Demand1.{Claims, KeyApplies, not-sound, by-form, no-row, CheckApplies, by-key, not-above, differs}
+use Rattle.demands.specs.Demand1.{Claims, KeyApplies, not-sound, by-form, no-row, CheckApplies, by-key, not-new, differs}
 use Rattle.demands.proofs.Below.{said-form, named-full}
 use Rattle.demands.proofs.Stages.{CheckEnd, check-unsound, check-refused, check-unknown, check-replay, check-wrong, check-accepts, check-end}
-use Rattle.demands.proofs.Stages.{KeyEnd, key-unsound, key-refused, key-unknown, key-names, key-end}
+use Rattle.demands.proofs.Stages.{accepts-claims, claims-names, KeyEnd, key-unsound, key-refused, key-unknown, key-names, key-end}
 
 -- ---- what lies below a number, on a sound book
 
@@ -42,11 +42,11 @@ module _ (b : Book) (m : List ℕ) (n : ℕ) where
   key-below s f u q l (KeyApplies.no-row id e h) = u l id e h
 
   check-below : NothingBelow (KeyApplies b m) n
-      → (numberOf Replay < n → (c k : ℕ) (mac : List ℕ) → Claims b m c k mac → c ≤ getD (b .received) k 0 → ⊥)
+      → (numberOf Replay < n → (c k : ℕ) (mac : List ℕ) → Claims b m c k mac → newTo b k c ≡ false → ⊥)
       → (numberOf WrongMac < n → (c k : ℕ) (mac : List ℕ) → Claims b m c k mac → mac ≢ hmac (keyOf b k) (imageOf m) → ⊥)
       → NothingBelow (CheckApplies b m) n
   check-below f g h q l (by-key a) = f q l a
-  check-below f g h q l (not-above c k mac w e) = g l c k mac w e
+  check-below f g h q l (not-new c k mac w e) = g l c k mac w e
   check-below f g h q l (differs c k mac w e) = h l c k mac w e
 
 -- what is claimed is claimed once
@@ -94,13 +94,12 @@ module _ (b : Book) (m : List ℕ) (bytes : Bytes m) (s : Sound b) where
 
   module _ (c k : ℕ) (mac : List ℕ) (v : Claims b m c k mac) where
     key-claimed : (n : ℕ) → NothingBelow (KeyApplies b m) n
-    key-claimed = key-none k (record { id = v .id; form = said-form m (says c (v .id) mac) (v .form) .name; secret = v .secret })
+    key-claimed = key-none k (claims-names v)
 
-    above-all : getD (b .received) k 0 < c → (d j : ℕ) (other : List ℕ) → Claims b m d j other → d ≤ getD (b .received) j 0 → ⊥
-    above-all above d j other w h =
+    new-all : newTo b k c ≡ true → (d j : ℕ) (other : List ℕ) → Claims b m d j other → newTo b j d ≡ false → ⊥
+    new-all new d j other w old =
         let e = same-claim b m c d k j mac other v w in
-        let g : getD (b .received) j 0 ≡ getD (b .received) k 0 = ap (λ (i : ℕ). getD (b .received) i 0) (e .1) in
-        omega arith
+        true≢false (sym new ∙ sym (ap₂ (newTo b) (e .1) (e .0)) ∙ old)
 
     right-all : mac ≡ hmac (keyOf b k) (imageOf m) → (d j : ℕ) (other : List ℕ) → Claims b m d j other → other ≢ hmac (keyOf b j) (imageOf m) → ⊥
     right-all right d j other w g =
@@ -124,16 +123,16 @@ module _ (b : Book) (m : List ℕ) (bytes : Bytes m) where
       by-key-lowest b m bytes s UnknownSecret (omega arith) (key-unnamed b m bytes s id (said-form m (says c id mac) e .name) f)
   check-lowest v (check-replay c k mac s w h) =
       lowest (CheckApplies b m) (some Replay)
-      (not-above c k mac w h, check-below b m 11 (key-claimed b m bytes s c k mac w 11) (λ l. absurd (omega arith)) (λ l. absurd (omega arith)))
+      (not-new c k mac w h, check-below b m 11 (key-claimed b m bytes s c k mac w 11) (λ l. absurd (omega arith)) (λ l. absurd (omega arith)))
   check-lowest v (check-wrong c k mac s w h g) =
       lowest (CheckApplies b m) (some WrongMac)
-      (differs c k mac w g, check-below b m 12 (key-claimed b m bytes s c k mac w 12) (λ l. above-all b m bytes s c k mac w h) (λ l. absurd (omega arith)))
+      (differs c k mac w g, check-below b m 12 (key-claimed b m bytes s c k mac w 12) (λ l. new-all b m bytes s c k mac w h) (λ l. absurd (omega arith)))
   check-lowest v (check-accepts {k} {c} s a) =
-      let w : Claims b m c k (a .mac) = record { id = a .id; form = a .form; secret = a .secret } in
+      let w = accepts-claims a in
       lowest (CheckApplies b m) none
       (nothing-below-any (CheckApplies b m) (λ n.
       check-below b m n (key-claimed b m bytes s c k (a .mac) w n)
-      (λ l. above-all b m bytes s c k (a .mac) w (a .above)) (λ l. right-all b m bytes s c k (a .mac) w (a .right))))
+      (λ l. new-all b m bytes s c k (a .mac) w (a .new)) (λ l. right-all b m bytes s c k (a .mac) w (a .right))))
 
 pub check-number : (b : Book) (m : List ℕ) → Bytes m → Lowest (CheckApplies b m) (verdictNumber (checkOf b m))
 check-number b m bytes = check-lowest b m bytes (checkOf b m) (check-end b m)
@@ -143,9 +142,9 @@ key-number b m bytes = key-lowest b m bytes (keyedOf b m) (key-end b m)
 
 -- ---- what a refusal leaves
 
-pub check-keeps : (v : Verdict) (received : List ℕ) → verdictNumber v ≢ done → receivedAfter v received ≡ received
-check-keeps (Accepted k c) received h = absurd (h refl)
-check-keeps (Refused r) received h = refl
+pub check-keeps : (v : Verdict) (marks received : List ℕ) → verdictNumber v ≢ done → (marksAfter v marks ≡ marks) × (receivedAfter v received ≡ received)
+check-keeps (Accepted k c) marks received h = absurd (h refl)
+check-keeps (Refused r) marks received h = (refl, refl)
 
 pub key-empty : (b : Book) (v : Keyed) → keyNumber v ≢ done → (keyBytes b v ≡ []) × (keyOffset v ≡ 0)
 key-empty b (Row k) h = absurd (h refl)

@@ -1,35 +1,39 @@
 -- What an answer depends on, proved: the case that one book's answer is in (proofs/Stages.antt) is the other's too, where they agree in what it says.
-use mathlib.Core.Path.{_≡_, refl, sym, ap, _∙_}
+use mathlib.Core.Path.{_≡_, refl, sym, ap, ap₂, _∙_}
 use mathlib.Core.List.{List, _++_}
 use mathlib.Core.Option.{Option, none, some}
 use Prim.Native.Nat.{ℕ, _+_, _<_}
 use native.Mathlib.Omega.{arith}
+use lib.Dec.{eqb}
 use lib.ListN.{length, take, length-take}
 use lib.Seq.{getD-take, ext-getD}
 use Rattle.hmac_md5.specs.Hmac.{hmac}
 use Rattle.dhcp_message.specs.Layout.{macSize, sealSize}
 use Rattle.octets.specs.Bytes.{zeros}
-use Rattle.dhcp_message.specs.Said.{says, saidOf, formOf}
+use Rattle.dhcp_message.specs.Said.{saidOf, formOf}
 use Rattle.dhcp_message.specs.Image.{imageOf}
+use Rattle.dhcp_message.specs.Replay.{isNew}
 use Rattle.dhcp_message.specs.Seal.{fields, sealedWith, withFields, Rewritten}
 use Rattle.dhcp_message.specs.declared.Auth.{Auth}
 use Rattle.dhcp_message.specs.declared.Form.the-variants.{Full}
 use Rattle.dhcp_message.proofs.Seals.{seal-laws}
+use Rattle.key_book.specs.Limits.{heard}
 use Rattle.key_book.specs.Book.{Book, Sound, rowOf, keyOf}
 use Rattle.key_book.proofs.Says.{sound-says, sound-depends, row-depends, row-says, key-depends}
 use Rattle.delayed_auth.specs.declared.Verdict.{Verdict}
 use Rattle.delayed_auth.specs.declared.Keyed.{Keyed}
 use Rattle.delayed_auth.specs.declared.Keyed.the-variants.{Row, NoKey}
-use Rattle.delayed_auth.specs.Check.{checkOf}
+use Rattle.delayed_auth.specs.Check.{newTo, checkOf}
 use Rattle.delayed_auth.specs.Key.{keyedOf, keyBytes}
 use Rattle.delayed_auth.specs.Seal.{Outcome, sealOf}
 use Rattle.demands.specs.Accepts.{Names}
 use Rattle.demands.specs.Dependence.{SameSecrets, SameForCheck, SameForSeal, SameInUse, Dependence}
 use Rattle.demands.specs.Demand1.{Claims}
 use Rattle.hmac_md5.proofs.Masks.{hmac-size}
-use Rattle.demands.proofs.Below.{never, said-form}
+use Rattle.demands.proofs.Below.{never}
 use Rattle.demands.proofs.Stages.{CheckEnd, check-unsound, check-refused, check-unknown, check-replay, check-wrong, check-accepts}
-use Rattle.demands.proofs.Stages.{check-end, end-check, KeyEnd, key-unsound, key-refused, key-unknown, key-names, key-end, end-key}
+use Rattle.demands.proofs.Stages.{check-end, end-check, accepts-claims, claims-names}
+use Rattle.demands.proofs.Stages.{KeyEnd, key-unsound, key-refused, key-unknown, key-names, key-end, end-key}
 use Rattle.demands.proofs.Stages.{SealEnd, seal-unsound, seal-refused, seal-unknown, seal-spent, seal-seals, seal-end, end-seal}
 
 -- ---- two books with the same soundness and ids
@@ -50,31 +54,33 @@ module _ (a b : Book) (w : SameSecrets a b) where
 pub check-same : (a b : Book) (m n : List ℕ) → SameForCheck a b m → saidOf n ≡ saidOf m → imageOf n ≡ imageOf m → checkOf b n ≡ checkOf a m
 check-same a b m n w said image = end-check b n (checkOf a m) (same (checkOf a m) (check-end a m))
   where
-    names : {c k : ℕ} {mac : List ℕ} → Claims a m c k mac → Names a m k
-    names {c} {k} {mac} x = record { id = x .id; form = said-form m (says c (x .id) mac) (x .form) .name; secret = x .secret }
-
     claims : {c k : ℕ} {mac : List ℕ} → Claims a m c k mac → Claims b n c k mac
     claims {k = k} x = record { id = x .id; form = said ∙ x .form; secret = row-too a b (w .secrets) (x .id) (some k) (x .secret) }
 
     good : Sound a → Sound b
     good = sound-too a b (w .secrets)
 
+    new : {c k : ℕ} {mac : List ℕ} → Sound a → Claims a m c k mac → newTo b k c ≡ newTo a k c
+    new {c} {k} s x =
+        let n = claims-names x in
+        sym (ap₂ (λ (mark received : ℕ). isNew (eqb mark heard) received c) (w .mark k s n) (w .received k s n))
+
     same : (v : Verdict) → CheckEnd a m v → CheckEnd b n v
     same v (check-unsound h) = check-unsound (unsound-too a b (w .secrets) h)
     same v (check-refused s e) = check-refused (good s) (said ∙ e)
     same v (check-unknown c id mac s e f) = check-unknown c id mac (good s) (said ∙ e) (row-too a b (w .secrets) id none f)
-    same v (check-replay c k mac s x h) = check-replay c k mac (good s) (claims x) (omega (arith, w .received k s (names x)))
+    same v (check-replay c k mac s x h) = check-replay c k mac (good s) (claims x) (new s x ∙ h)
     same v (check-wrong c k mac s x h g) =
-        check-wrong c k mac (good s) (claims x) (omega (arith, w .received k s (names x))) (rw (w .key k s (names x), ← image) at g)
+        check-wrong c k mac (good s) (claims x) (new s x ∙ h) (rw (w .key k s (claims-names x), ← image) at g)
     same v (check-accepts {k} {c} s x) =
-        let claim : Claims a m c k (x .mac) = record { id = x .id; form = x .form; secret = x .secret } in
+        let claim = accepts-claims x in
         check-accepts (good s) (record {
           id = x .id;
           mac = x .mac;
           form = said ∙ x .form;
-          secret = claims claim .secret;
-          above = omega (arith, x .above, w .received k s (names claim));
-          right = rw (w .key k s (names claim), ← image) at (x .right);
+          secret = row-too a b (w .secrets) (x .id) (some k) (x .secret);
+          new = new s claim ∙ x .new;
+          right = rw (w .key k s (claims-names claim), ← image) at (x .right);
         })
 
 module _ (a b : Book) (m : List ℕ) where
@@ -177,7 +183,12 @@ module _ (a b : Book) (w : SameInUse a b) where
   same-found m k s n = same-key k s (used (n .id) k (n .secret))
 
   in-use-check : (m : List ℕ) → SameForCheck a b m
-  in-use-check m = record { secrets = secrets; key = same-found m; received = λ k s n. w .received k (used (n .id) k (n .secret)) }
+  in-use-check m = record {
+    secrets = secrets;
+    key = same-found m;
+    mark = λ k s n. w .alike .same-marks k (used (n .id) k (n .secret));
+    received = λ k s n. w .received k (used (n .id) k (n .secret));
+  }
 
   in-use-seal : (id : ℕ) → SameForSeal a b id
   in-use-seal id = record { secrets = secrets; key = λ k s e. same-key k s (used id k e); sent = λ k s e. w .sent k (used id k e) }

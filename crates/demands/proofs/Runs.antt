@@ -9,7 +9,6 @@ use mathlib.Core.Option.{Option, none, some, discrete}
 use mathlib.Core.List.{List, [], _∷_}
 use mathlib.Core.HLevel.{Discrete}
 use Prim.Native.Nat.{ℕ, zero, suc, _≤_, _<_}
-use native.Mathlib.Nat.{le-refl, le-trans}
 use native.Mathlib.Decide.{ℕ-discrete, decLe}
 use native.Mathlib.Omega.{arith}
 use lib.ListN.{length, getElem?}
@@ -85,12 +84,6 @@ module _ {State Step Answer : Type 0} {answerOf : State → Step → Answer} {af
             rw (next-at b l j (s .0) (s .1))
             (h j (s .0) n (omega arith) (s .1) (kept-on P b l i j n (omega arith) (λ p t x y. h p t x (omega arith)) g))
       ]
-
-  -- a number that no step from i to j lowers
-  pub never-falls : (f : State → ℕ) (b : State) (l : List Step) (i j : ℕ) → i ≤ j → j ≤ length l
-      → ((p : ℕ) (s : Step) → i ≤ p → p < j → getElem? l p ≡ some s → f (run .bookAt b l p) ≤ f (after (run .bookAt b l p) s))
-      → f (run .bookAt b l i) ≤ f (run .bookAt b l j)
-  never-falls f b l i j q m h = kept-on (λ x. f (run .bookAt b l i) ≤ f x) b l i j q m (λ p s x y e g. le-trans g (h p s x y e)) (le-refl _)
 
 -- ---- channels
 

@@ -5,7 +5,7 @@ use mathlib.Core.Logic.{_≢_}
 use mathlib.Core.Bool.{Bool, true, false}
 use mathlib.Core.List.{List, _++_}
 use mathlib.Core.Option.{none, some}
-use Prim.Native.Nat.{ℕ, _+_, _≤_, _<_}
+use Prim.Native.Nat.{ℕ, _+_}
 use lib.ListN.{getD}
 use Rattle.refusal.specs.declared.Refusal.{Refusal}
 use Rattle.refusal.specs.declared.Refusal.the-variants.{UnsoundBook, UnknownSecret, Replay, WrongMac, CounterSpent}
@@ -26,7 +26,7 @@ use Rattle.delayed_auth.specs.declared.Keyed.{Keyed}
 use Rattle.delayed_auth.specs.declared.Keyed.the-variants.{Row, NoKey}
 use Rattle.delayed_auth.specs.Admit.{admittedSaid, admittedForm}
 use Rattle.delayed_auth.specs.Key.{keyedOf}
-use Rattle.delayed_auth.specs.Check.{checkOf}
+use Rattle.delayed_auth.specs.Check.{newTo, checkOf}
 use Rattle.delayed_auth.specs.Seal.{counterMost, Outcome, sealed, unsealed, outcomeBy, planOf, sealOf}
 use Rattle.delayed_auth.proofs.Admits.{unsound-book, sound-book, SaidCase, case-said, said-case, FormCase, case-form, form-case}
 use Rattle.delayed_auth.proofs.Judging as judging
@@ -78,8 +78,8 @@ pub data CheckEnd (b : Book) (m : List ℕ) : Verdict → Type 0 where
   check-unsound : (Sound b → ⊥) → CheckEnd b m (Refused UnsoundBook)
   check-refused : {r : Refusal} → Sound b → saidOf m ≡ refused r → CheckEnd b m (Refused r)
   check-unknown : (c id : ℕ) (mac : List ℕ) → Sound b → saidOf m ≡ says c id mac → rowOf b id ≡ none → CheckEnd b m (Refused UnknownSecret)
-  check-replay : (c k : ℕ) (mac : List ℕ) → Sound b → Claims b m c k mac → c ≤ getD (b .received) k 0 → CheckEnd b m (Refused Replay)
-  check-wrong : (c k : ℕ) (mac : List ℕ) → Sound b → Claims b m c k mac → getD (b .received) k 0 < c → mac ≢ hmac (keyOf b k) (imageOf m)
+  check-replay : (c k : ℕ) (mac : List ℕ) → Sound b → Claims b m c k mac → newTo b k c ≡ false → CheckEnd b m (Refused Replay)
+  check-wrong : (c k : ℕ) (mac : List ℕ) → Sound b → Claims b m c k mac → newTo b k c ≡ true → mac ≢ hmac (keyOf b k) (imageOf m)
       → CheckEnd b m (Refused WrongMac)
   check-accepts : {k c : ℕ} → Sound b → Accepts b m k c → CheckEnd b m (Accepted k c)
 
@@ -102,7 +102,7 @@ module _ (b : Book) (m : List ℕ) where
           check-wrong c k mac (w .0) (record { id = id; form = w .1; secret = f }) h g
       on v (judging.check-accepts {c} {id} {k} {mac} e f h g) =
           let w = told b m c id mac e in
-          check-accepts (w .0) (record { id = id; mac = mac; form = w .1; secret = f; above = h; right = g })
+          check-accepts (w .0) (record { id = id; mac = mac; form = w .1; secret = f; new = h; right = g })
 
   pub end-check : (v : Verdict) → CheckEnd b m v → checkOf b m ≡ v
   end-check v e = sym (judging.case-check b m v (on v e))
@@ -113,13 +113,20 @@ module _ (b : Book) (m : List ℕ) where
       on v (check-unknown c id mac s e f) = judging.check-unknown (tell b m (says c id mac) s e) f
       on v (check-replay c k mac s w h) = judging.check-replay (tell b m (says c (w .id) mac) s (w .form)) (w .secret) h
       on v (check-wrong c k mac s w h g) = judging.check-wrong (tell b m (says c (w .id) mac) s (w .form)) (w .secret) h g
-      on v (check-accepts {k} {c} s a) = judging.check-accepts (tell b m (says c (a .id) (a .mac)) s (a .form)) (a .secret) (a .above) (a .right)
+      on v (check-accepts {k} {c} s a) = judging.check-accepts (tell b m (says c (a .id) (a .mac)) s (a .form)) (a .secret) (a .new) (a .right)
 
   pub accepted-accepts : (k c : ℕ) → checkOf b m ≡ Accepted k c → Accepts b m k c
   accepted-accepts k c e = on (rw e at check-end)
     where
       on : CheckEnd b m (Accepted k c) → Accepts b m k c
       on (check-accepts s a) = a
+
+-- what is accepted is claimed, and a message that claims a counter and a MAC at a row names its secret
+pub accepts-claims : {b : Book} {m : List ℕ} {k c : ℕ} → (a : Accepts b m k c) → Claims b m c k (a .mac)
+accepts-claims a = record { id = a .id; form = a .form; secret = a .secret }
+
+pub claims-names : {b : Book} {m : List ℕ} {c k : ℕ} {mac : List ℕ} → Claims b m c k mac → Names b m k
+claims-names {m = m} {c = c} {mac = mac} w = record { id = w .id; form = said-form m (says c (w .id) mac) (w .form) .name; secret = w .secret }
 
 -- ---- the key of a message
 

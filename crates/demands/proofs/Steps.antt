@@ -1,30 +1,118 @@
 -- The laws of checks and seals, which is all that runs need to know of them: a step leaves a sound book sound and an id has one row; a relay
--- change is not seen; a step reads one key and one counter, of one row, and writes that counter; an accepted counter is above the one there
--- and a replay ever after.
-use mathlib.Core.Path.{_≡_, refl, sym, ap, _∙_}
+-- change is not seen; a check reads the key, the mark and the received counter of one row and writes the last two, a seal reads a key and a sent
+-- counter of one row and writes that counter; an accepted counter is new to its row, and no counter that is not new to a row ever is again.
+use mathlib.Core.Path.{_≡_, refl, sym, _∙_}
+use mathlib.Core.Logic.{_≢_, inr}
+use mathlib.Core.Bool.{Bool, true, false}
 use mathlib.Core.List.{List}
 use mathlib.Core.Option.{some}
 use Prim.Native.Nat.{ℕ, _≤_, _<_}
+use native.Mathlib.Decide.{ℕ-discrete}
+use native.Mathlib.Omega.{arith}
+use lib.Dec.{eqb}
 use lib.ListN.{length, getD, take, length-set}
+use lib.Seq.{getD-set-same, getD-set-other}
+use Rattle.refusal.specs.declared.Refusal.{Refusal}
 use Rattle.refusal.specs.declared.Refusal.the-variants.{Replay}
-use Rattle.dhcp_message.specs.Said.{says, named}
+use Rattle.dhcp_message.specs.Said.{named}
 use Rattle.dhcp_message.specs.Relay.{Relayed}
+use Rattle.dhcp_message.specs.Replay.{isNew}
 use Rattle.dhcp_message.proofs.Relays.{relay-keeps}
-use Rattle.key_book.specs.Book.{Book, Sound, bookOf, rowOf, keyOf}
-use Rattle.key_book.specs.Laws.{Alike}
-use Rattle.key_book.proofs.Says.{sound-says, sound-depends, row-says, row-depends, rows-within}
+use Rattle.dhcp_message.proofs.Replays.{above-new, old-counter, counter-old}
+use Rattle.key_book.specs.Limits.{heard}
+use Rattle.key_book.specs.Book.{Book, Sound, MarkFits, bookOf, heardAt, rowOf, keyOf}
+use Rattle.key_book.proofs.Says.{sound-says, row-says, row-depends, rows-within}
 use Rattle.delayed_auth.specs.declared.Verdict.{Verdict}
 use Rattle.delayed_auth.specs.declared.Verdict.the-variants.{Accepted, Refused}
-use Rattle.delayed_auth.specs.Check.{checkOf, receivedAfter}
+use Rattle.delayed_auth.specs.Check.{newTo, checkOf, marksAfter, receivedAfter}
 use Rattle.delayed_auth.specs.Seal.{Outcome, sealed, unsealed, sealOf, sentAfter}
 use Rattle.demands.specs.Accepts.{Accepts, Names}
 use Rattle.demands.specs.Dependence.{SameSecrets}
 use Rattle.demands.specs.Demand3.{Step, check, seal, bookAfter}
-use Rattle.demands.proofs.Below.{said-form}
-use Rattle.demands.proofs.Stages.{check-replay}
-use Rattle.demands.proofs.Stages.{end-check, accepted-accepts, sealed-by}
+use Rattle.demands.proofs.Stages.{check-replay, end-check, accepted-accepts, accepts-claims, claims-names}
 use Rattle.demands.proofs.Demand2.{demand-2}
 use Rattle.demands.proofs.Dependence.{check-same, seal-depends}
+
+-- ---- what a check leaves in a row
+
+-- what was heard in row k: its mark and its received counter
+abbrev pub hearing : ℕ → Book → ℕ × ℕ
+hearing k b = (getD (b .marks) k 0, getD (b .received) k 0)
+
+-- whether a counter is new to it
+abbrev pub newWith : ℕ × ℕ → ℕ → Bool
+newWith x c = isNew (eqb (x .0) heard) (x .1) c
+
+-- by the answer: row k is as it was; or the message names its secret and is accepted with a counter that is new to it, and then the row is heard and
+-- has that counter
+pub data Hears (b : Book) (m : List ℕ) (k : ℕ) : Verdict → ℕ × ℕ → Type 0 where
+  refuses : {r : Refusal} → Hears b m k (Refused r) (hearing k b)
+  elsewhere : {j c : ℕ} → Names b m j → j ≢ k → Hears b m k (Accepted j c) (hearing k b)
+  here : {c : ℕ} → Names b m k → newTo b k c ≡ true → Hears b m k (Accepted k c) (heard, c)
+
+pub hears : (b : Book) → Sound b → (m : List ℕ) (k : ℕ) → Hears b m k (checkOf b m) (hearing k (bookAfter b (check m)))
+hears b s m k = on (checkOf b m) refl
+  where
+    on : (v : Verdict) → checkOf b m ≡ v → Hears b m k v (getD (marksAfter v (b .marks)) k 0, getD (receivedAfter v (b .received)) k 0)
+    on (Refused r) e = refuses
+    on (Accepted j c) e =
+        let a = accepted-accepts b m j c e in
+        let w = claims-names (accepts-claims a) in
+        elim (ℕ-discrete k j) [
+          | no g ↦ rw (getD-set-other (b .marks) j k heard 0 g, getD-set-other (b .received) j k c 0 g) (elsewhere w (λ h. g (sym h)))
+          | yes g ↦
+              let l = rows-within b s j (row-says .row b (a .id) j .0 (a .secret) .used) in
+              rw (g, getD-set-same (b .marks) j heard 0 (l .in-marks), getD-set-same (b .received) j c 0 (l .in-received)) (here w (a .new))
+        ]
+
+-- ---- a step leaves a sound book sound
+
+marks-size : (v : Verdict) (xs : List ℕ) → length (marksAfter v xs) ≡ length xs
+marks-size (Accepted k c) xs = length-set xs k heard
+marks-size (Refused r) xs = refl
+
+received-size : (v : Verdict) (xs : List ℕ) → length (receivedAfter v xs) ≡ length xs
+received-size (Accepted k c) xs = length-set xs k c
+received-size (Refused r) xs = refl
+
+sent-size : (o : Outcome) (xs : List ℕ) → length (sentAfter o xs) ≡ length xs
+sent-size (sealed k c n) xs = length-set xs k c
+sent-size (unsealed r) xs = refl
+
+-- a sound book with other marks and counters, as many of each, is sound where the marks fit the received counters
+counters-sound : (b : Book) (marks received sent : List ℕ) → length marks ≡ length (b .marks) → length received ≡ length (b .received)
+    → length sent ≡ length (b .sent) → ((k : ℕ) → k < b .rows → MarkFits (getD marks k 0) (getD received k 0))
+    → Sound b → Sound (bookOf (b .ids) (b .lengths) (b .store) marks received sent (b .rows))
+counters-sound b marks received sent e f g fit s =
+    let z = s .sizes in
+    record {
+      sizes = record {
+        room = z .room;
+        lengths-agree = z .lengths-agree;
+        store-agrees = z .store-agrees;
+        marks-agree = e ∙ z .marks-agree;
+        received-agree = f ∙ z .received-agree;
+        sent-agree = g ∙ z .sent-agree;
+      };
+      rows-fit = s .rows-fit;
+      rows-few = s .rows-few;
+      ids-ascend = s .ids-ascend;
+      keys-from = s .keys-from;
+      keys-to = s .keys-to;
+      marks-fit = fit;
+    }
+
+-- a check leaves marks that fit: a row that is heard may have any counter
+hears-fits : (b : Book) → Sound b → (m : List ℕ) (k : ℕ) → k < b .rows → {v : Verdict} {x : ℕ × ℕ} → Hears b m k v x → MarkFits (x .0) (x .1)
+hears-fits b s m k l refuses = s .marks-fit k l
+hears-fits b s m k l (elsewhere w n) = s .marks-fit k l
+hears-fits b s m k l (here w new) = record { known = inr refl; fresh = λ z. absurd (omega arith) }
+
+pub step-sound : (b : Book) → Sound b → (s : Step) → Sound (bookAfter b s)
+step-sound b s (check m) =
+    counters-sound b _ _ _ (marks-size (checkOf b m) (b .marks)) (received-size (checkOf b m) (b .received)) refl
+    (λ k l. hears-fits b s m k l (hears b s m k)) s
+step-sound b s (seal id m) = counters-sound b _ _ _ refl refl (sent-size (sealOf b id m) (b .sent)) (s .marks-fit) s
 
 -- ---- the books of a run: sound, with the ids, the row count and the room of the first one
 
@@ -40,49 +128,19 @@ module _ (a b : Book) (w : SameIds a b) where
   pub row-kept : (id : ℕ) → rowOf b id ≡ rowOf a id
   row-kept id = row-depends b a id (w .ids)
 
+  pub marks-room : length (b .marks) ≡ length (a .ids)
+  marks-room = w .is-sound .sizes .marks-agree ∙ w .room
+
   pub received-room : length (b .received) ≡ length (a .ids)
   received-room = w .is-sound .sizes .received-agree ∙ w .room
 
   pub sent-room : length (b .sent) ≡ length (a .ids)
   sent-room = w .is-sound .sizes .sent-agree ∙ w .room
 
-received-size : (v : Verdict) (xs : List ℕ) → length (receivedAfter v xs) ≡ length xs
-received-size (Accepted k c) xs = length-set xs k c
-received-size (Refused r) xs = refl
-
-sent-size : (o : Outcome) (xs : List ℕ) → length (sentAfter o xs) ≡ length xs
-sent-size (sealed k c n) xs = length-set xs k c
-sent-size (unsealed r) xs = refl
-
--- a sound book with other counters, as many of them, is sound
-counters-sound : (b : Book) (received sent : List ℕ) → length received ≡ length (b .received) → length sent ≡ length (b .sent)
-    → Sound b → Sound (bookOf (b .ids) (b .lengths) (b .store) received sent (b .rows))
-counters-sound b received sent e f s =
-    let d = bookOf (b .ids) (b .lengths) (b .store) received sent (b .rows) in
-    let w : Alike d b = record {
-      ids-size = refl;
-      lengths-size = refl;
-      store-size = refl;
-      received-size = e;
-      sent-size = f;
-      same-rows = refl;
-      same-ids = λ k h. refl;
-      same-lengths = λ k h. refl;
-    } in
-    sound-says d .0 (sound-depends d b w ∙ sound-says b .1 s)
-
--- a step leaves a sound book sound, and changes no id
+-- a step changes no id
 pub step-keeps : (a b : Book) (s : Step) → SameIds a b → SameIds a (bookAfter b s)
-step-keeps a b (check m) h = record {
-  is-sound = counters-sound b _ _ (received-size (checkOf b m) (b .received)) refl (h .is-sound);
-  room = h .room;
-  ids = h .ids;
-}
-step-keeps a b (seal id m) h = record {
-  is-sound = counters-sound b _ _ refl (sent-size (sealOf b id m) (b .sent)) (h .is-sound);
-  room = h .room;
-  ids = h .ids;
-}
+step-keeps a b (check m) h = record { is-sound = step-sound b (h .is-sound) (check m); room = h .room; ids = h .ids }
+step-keeps a b (seal id m) h = record { is-sound = step-sound b (h .is-sound) (seal id m); room = h .room; ids = h .ids }
 
 -- an id has one row
 pub single : (b : Book) (i j k : ℕ) → rowOf b i ≡ some k → rowOf b j ≡ some k → i ≡ j
@@ -92,9 +150,9 @@ single b i j k e f = sym (row-says .row b i k .0 e .named) ∙ row-says .row b j
 pub name-relayed : (m n : List ℕ) → Relayed m n → named n ≡ named m
 name-relayed m n q = relay-keeps .often m n q .name
 
--- what a check goes by of a row, and what a seal goes by: its key, and one of its counters
-abbrev pub receivedRow : ℕ → Book → List ℕ × ℕ
-receivedRow k b = (keyOf b k, getD (b .received) k 0)
+-- what a check goes by of a row: its key, and what was heard there; and what a seal goes by: its key and its sent counter
+abbrev pub receivedRow : ℕ → Book → List ℕ × (ℕ × ℕ)
+receivedRow k b = (keyOf b k, hearing k b)
 
 abbrev pub sentRow : ℕ → Book → List ℕ × ℕ
 sentRow k b = (keyOf b k, getD (b .sent) k 0)
@@ -107,8 +165,9 @@ module _ (b₀ a b : Book) (v : SameIds b₀ a) (w : SameIds b₀ b) where
       → checkOf b n ≡ checkOf a m
   check-reads m n q h = check-same a b m n (record {
     secrets = secrets;
-    key = λ k s w. ap (λ (x : List ℕ × ℕ). x .0) (at k w);
-    received = λ k s w. ap (λ (x : List ℕ × ℕ). x .1) (at k w);
+    key = λ k s w i. at k w i .0;
+    mark = λ k s w i. at k w i .1 .0;
+    received = λ k s w i. at k w i .1 .1;
   }) (relay-keeps .often m n q .said) (relay-keeps .often m n q .image)
     where
       at : (k : ℕ) → Names a m k → receivedRow k a ≡ receivedRow k b
@@ -117,47 +176,47 @@ module _ (b₀ a b : Book) (v : SameIds b₀ a) (w : SameIds b₀ b) where
   pub seal-reads : (id : ℕ) (m : List ℕ) → ((k : ℕ) → rowOf b₀ id ≡ some k → sentRow k a ≡ sentRow k b) → sealOf a id m ≡ sealOf b id m
   seal-reads id m h = seal-depends a b id m (record {
     secrets = secrets;
-    key = λ k s e. ap (λ (x : List ℕ × ℕ). x .0) (at k e);
-    sent = λ k s e. ap (λ (x : List ℕ × ℕ). x .1) (at k e);
+    key = λ k s e i. at k e i .0;
+    sent = λ k s e i. at k e i .1;
   })
     where
       at : (k : ℕ) → rowOf a id ≡ some k → sentRow k a ≡ sentRow k b
       at k e = h k (sym (row-kept b₀ a v id) ∙ e)
 
--- there they store too; and an accepted counter is above the one there
-pub record AcceptedAt (b : Book) (m : List ℕ) (k c : ℕ) : Type 0 where
-  pub id : ℕ
-  pub name : named m ≡ some id
-  pub row : rowOf b id ≡ some k
-  pub inside : k < length (b .received)
-  pub above : getD (b .received) k 0 < c
+-- ---- replays
 
-pub accepted-at : (b : Book) (m : List ℕ) (k c : ℕ) → Sound b → checkOf b m ≡ Accepted k c → AcceptedAt b m k c
-accepted-at b m k c s e =
-    let a = accepted-accepts b m k c e in
-    record {
-      id = a .id;
-      name = said-form m (says c (a .id) (a .mac)) (a .form) .name;
-      row = a .secret;
-      inside = rows-within b s k (row-says .row b (a .id) k .0 (a .secret) .used) .in-received;
-      above = a .above;
-    }
-
-pub sealed-at : (b : Book) (id : ℕ) (m : List ℕ) (k c : ℕ) (n : List ℕ) → Sound b → sealOf b id m ≡ sealed k c n → rowOf b id ≡ some k
-sealed-at b id m k c n s e = sealed-by b id m k c n e .secret
-
--- an accepted message is a replay where the row's counter is at least its own
-pub replays : (b₀ a b : Book) (m : List ℕ) (k c : ℕ) → SameIds b₀ a → SameIds b₀ b → checkOf a m ≡ Accepted k c → c ≤ getD (b .received) k 0
+-- an accepted message is a replay where its counter is not new to the row
+pub replays : (b₀ a b : Book) (m : List ℕ) (k c : ℕ) → SameIds b₀ a → SameIds b₀ b → checkOf a m ≡ Accepted k c → newTo b k c ≡ false
     → checkOf b m ≡ Refused Replay
 replays b₀ a b m k c v w e h =
     let x = accepted-accepts a m k c e in
     let row = row-kept b₀ b w (x .id) ∙ sym (row-kept b₀ a v (x .id)) ∙ x .secret in
     end-check b m _ (check-replay c k (x .mac) (w .is-sound) (record { id = x .id; form = x .form; secret = row }) h)
 
--- a message that demand 2 doesn't accept leaves the counters as they are
-pub not-accepted : (b : Book) (m : List ℕ) → Sound b → ((k c : ℕ) → Accepts b m k c → ⊥) → receivedAfter (checkOf b m) (b .received) ≡ b .received
+-- no counter up to an accepted one is new to the row afterwards
+pub old-then : (b : Book) (m : List ℕ) (k c d : ℕ) → Sound b → checkOf b m ≡ Accepted k c → d ≤ c → newTo (bookAfter b (check m)) k d ≡ false
+old-then b m k c d s e l = rw e (on (rw e at (hears b s m k)))
+  where
+    on : {x : ℕ × ℕ} → Hears b m k (Accepted k c) x → newWith x d ≡ false
+    on (elsewhere w n) = absurd (n refl)
+    on (here w new) = counter-old c d l
+
+-- a counter that is not new to a row is not new to it after any step: the row was heard, so it has a larger counter now or is as it was
+pub stays-old : (b : Book) (s : Step) (k c : ℕ) → Sound b → newTo b k c ≡ false → newTo (bookAfter b s) k c ≡ false
+stays-old b (seal id m) k c h old = old
+stays-old b (check m) k c h old = on (hears b h m k)
+  where
+    on : {v : Verdict} {x : ℕ × ℕ} → Hears b m k v x → newWith x c ≡ false
+    on refuses = old
+    on (elsewhere w n) = old
+    on (here {c = d} w new) =
+        let was = old-counter _ _ (heardAt b k) old in
+        counter-old d c (omega (arith, was .1, above-new _ d (rw (was .0) at new)))
+
+-- a message that demand 2 doesn't accept leaves the book as it is
+pub not-accepted : (b : Book) (m : List ℕ) → Sound b → ((k c : ℕ) → Accepts b m k c → ⊥) → bookAfter b (check m) ≡ b
 not-accepted b m s h = on (checkOf b m) refl
   where
-    on : (v : Verdict) → checkOf b m ≡ v → receivedAfter v (b .received) ≡ b .received
+    on : (v : Verdict) → checkOf b m ≡ v → bookAfter b (check m) ≡ b
     on (Accepted k c) e = absurd (h k c (demand-2 .accepted b s m k c .0 e))
-    on (Refused r) e = refl
+    on (Refused r) e = rw e

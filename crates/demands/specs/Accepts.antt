@@ -1,6 +1,7 @@
 -- When a check accepts, when a message has a key, and when a seal seals, in plain sight (docs/RULES.md, 'The demands', 'Check', 'Key of a message', 'Seal').
 use Prim.Native.Nat.{ℕ, _+_, _<_}
 use mathlib.Core.Path.{_≡_}
+use mathlib.Core.Bool.{true}
 use mathlib.Core.List.{List, _++_}
 use mathlib.Core.Option.{some}
 use lib.ListN.{getD}
@@ -13,6 +14,7 @@ use Rattle.dhcp_message.specs.Seal.{fields}
 use Rattle.dhcp_message.specs.declared.Auth.{Auth}
 use Rattle.dhcp_message.specs.declared.Form.the-variants.{Full}
 use Rattle.key_book.specs.Book.{Book, rowOf, keyOf}
+use Rattle.delayed_auth.specs.Check.{newTo}
 use Rattle.delayed_auth.specs.Seal.{counterMost}
 
 -- The book accepts message m at row k with counter c.
@@ -23,8 +25,8 @@ pub record Accepts (b : Book) (m : List ℕ) (k c : ℕ) : Type 0 where
   pub form : saidOf m ≡ says c id mac
   -- its secret is in the book
   pub secret : rowOf b id ≡ some k
-  -- its counter is above that secret's stored one
-  pub above : getD (b .received) k 0 < c
+  -- its counter is new to that secret: the row is not heard, or its received counter is below
+  pub new : newTo b k c ≡ true
   -- its MAC is right over the message as RFC 3118, section 3, has it read
   pub right : mac ≡ hmac (keyOf b k) (imageOf m)
 

@@ -8,7 +8,7 @@ use Rattle.dhcp_message.specs.Said.{formOf, formNumber}
 use Rattle.dhcp_message.specs.Bench.{messageOf, fullAuth, someMac, relayInTheMiddle, BenchExamples}
 use Rattle.key_book.specs.Examples.{Example10}
 use Rattle.delayed_auth.specs.Check.{checkOf, verdictNumber}
-use Rattle.card_laws.specs.Examples.{bookB, Example1, Example2}
+use Rattle.card_laws.specs.Examples.{bookB, Example1, MarkedCards, Example2}
 
 -- the number of a check of the message on Book B
 abbrev pub numberOnB : List ℕ → ℕ
@@ -20,6 +20,7 @@ forgedMessage counter id = messageOf (fullAuth 1 counter id someMac ++ (255 ∷ 
 
 pub record BenchTable : Type 0 where
   pub example-1 : Example1
+  pub example-1-marks : MarkedCards
   pub example-2 : Example2
   -- 3 to 7 are told of the message's form, and a check on Book B gives a number from 2 to 9 exactly where the form has it
   pub examples-3-to-7 : BenchExamples

@@ -2,9 +2,10 @@
 -- rules' words; the entry gives the lowest number that applies, 0 exactly where none does. A refusal alters nothing lent; with 14 the digest or
 -- MAC handed back is 16 zero bytes.
 -- Nothing is asked of the book; of a message and a card only that their elements are bytes. Its one proof is proofs/Demand1.antt.
-use Prim.Native.Nat.{ℕ, _+_, _<_, _≤_}
+use Prim.Native.Nat.{ℕ, _+_, _<_}
 use mathlib.Core.Path.{_≡_}
 use mathlib.Core.Logic.{_≢_}
+use mathlib.Core.Bool.{false}
 use mathlib.Core.List.{List, []}
 use mathlib.Core.Option.{some}
 use lib.ListN.{length, getD}
@@ -12,7 +13,7 @@ use Rattle.refusal.specs.Number.{done}
 use Rattle.refusal.specs.Lowest.{Lowest}
 use Rattle.refusal.specs.declared.Refusal.{Refusal}
 use Rattle.refusal.specs.declared.Refusal.the-variants.{UnsoundBook, UnknownSecret, Replay, WrongMac, CounterSpent, TooLong}
-use Rattle.refusal.specs.declared.Refusal.the-variants.{MalformedCard, NoRoomForCard, NoRoomForRows}
+use Rattle.refusal.specs.declared.Refusal.the-variants.{MalformedCard, NoRoomForCard, NoRoomForRows, RowNotHeard}
 use Rattle.md5.specs.declared.Digest.{Digest}
 use Rattle.md5.specs.Block.{blockSize}
 use Rattle.md5.specs.Entries.{digestMost, noDigest, feedOf, finishOf, md5Of}
@@ -21,14 +22,18 @@ use Rattle.octets.specs.Bytes.{Bytes}
 use Rattle.dhcp_message.specs.Said.{says, saidOf, named}
 use Rattle.dhcp_message.specs.Image.{imageOf}
 use Rattle.dhcp_message.specs.Numbers.{Applies}
+use Rattle.key_book.specs.Limits.{notHeard}
 use Rattle.key_book.specs.Book.{Book, Sized, Sound, rowOf, keyOf}
 use Rattle.key_book.specs.Laws.{NoRow}
-use Rattle.delayed_auth.specs.Check.{checkOf, receivedAfter, verdictNumber}
+use Rattle.delayed_auth.specs.Check.{newTo, checkOf, marksAfter, receivedAfter, verdictNumber}
 use Rattle.delayed_auth.specs.Key.{keyedOf, keyNumber, keyBytes, keyOffset}
 use Rattle.delayed_auth.specs.Seal.{counterMost, sealOf, messageAfter, sentAfter, outcomeNumber}
-use Rattle.book_card.specs.Card.{Row, InOrder, cardOf}
+use Rattle.book_card.specs.declared.CardForm.{CardForm}
+use Rattle.book_card.specs.declared.CardForm.the-variants.{Old, New}
+use Rattle.book_card.specs.Card.{Row, emptyRow, cardOf, CardFor, NoCard}
 use Rattle.book_card.specs.Reading.{readOf, readBook, readNumber}
 use Rattle.book_card.specs.Writing.{rowsOf, writeOf, roomAfter, writeNumber}
+use Rattle.book_card.specs.Moving.{moveOf, roomMoved}
 
 -- ---- when a number applies
 
@@ -44,10 +49,10 @@ pub data KeyApplies (b : Book) (m : List ℕ) : Refusal → Type 0 where
   by-form : {r : Refusal} → Applies m r → KeyApplies b m r
   no-row : (id : ℕ) → named m ≡ some id → NoRow b id → KeyApplies b m UnknownSecret
 
--- 1 to 12: those; the counter is not above the row's received one; the MAC differs
+-- 1 to 12: those; the counter is not new to the row, which is heard and has a received counter that is not below; the MAC differs
 pub data CheckApplies (b : Book) (m : List ℕ) : Refusal → Type 0 where
   by-key : {r : Refusal} → KeyApplies b m r → CheckApplies b m r
-  not-above : (counter k : ℕ) (mac : List ℕ) → Claims b m counter k mac → counter ≤ getD (b .received) k 0 → CheckApplies b m Replay
+  not-new : (counter k : ℕ) (mac : List ℕ) → Claims b m counter k mac → newTo b k counter ≡ false → CheckApplies b m Replay
   differs : (counter k : ℕ) (mac : List ℕ) → Claims b m counter k mac → mac ≢ hmac (keyOf b k) (imageOf m) → CheckApplies b m WrongMac
 
 -- 1 to 9, then 10 for the given id, then 13: its row has sent the largest counter
@@ -66,22 +71,31 @@ pub data HmacApplies (key text : List ℕ) : Refusal → Type 0 where
   long-key : keyMost < length key → HmacApplies key text TooLong
   long-text : digestMost < blockSize + length text → HmacApplies key text TooLong
 
--- reading a card: the lent sizes disagree or there is room for too many; the bytes are the card of no rows in order; there are more rows than room
+-- reading a card: the lent sizes disagree or there is room for too many; the bytes are no card in either form; there are more rows than room
 pub data ReadApplies (b : Book) (card : List ℕ) : Refusal → Type 0 where
   sizes-disagree : (Sized b → ⊥) → ReadApplies b card UnsoundBook
-  malformed : ((rows : List Row) → InOrder rows → card ≡ cardOf rows → ⊥) → ReadApplies b card MalformedCard
-  more-rows : (rows : List Row) → InOrder rows → card ≡ cardOf rows → length (b .ids) < length rows → ReadApplies b card NoRoomForRows
+  malformed : NoCard card → ReadApplies b card MalformedCard
+  more-rows : (rows : List Row) → CardFor rows card → length (b .ids) < length rows → ReadApplies b card NoRoomForRows
 
 -- writing a card: the book is not sound; the room is below the card's size
 pub data WriteApplies (b : Book) (room : List ℕ) : Refusal → Type 0 where
   not-sound : (Sound b → ⊥) → WriteApplies b room UnsoundBook
-  small-room : length room < length (cardOf (rowsOf b)) → WriteApplies b room NoRoomForCard
+  small-room : length room < length (cardOf New (rowsOf b)) → WriteApplies b room NoRoomForCard
+
+-- moving a card: the bytes are no card in either form; the room is below the size that the card would have in the wanted form; the old form is wanted and a
+-- row is not heard
+pub data MoveApplies (wanted : CardForm) (card room : List ℕ) : Refusal → Type 0 where
+  malformed : NoCard card → MoveApplies wanted card room MalformedCard
+  small-room : (rows : List Row) → CardFor rows card → length room < length (cardOf wanted rows) → MoveApplies wanted card room NoRoomForCard
+  not-heard : wanted ≡ Old → (rows : List Row) → CardFor rows card → (k : ℕ) → k < length rows → getD rows k emptyRow .mark ≡ notHeard
+      → MoveApplies wanted card room RowNotHeard
 
 -- ---- demand 1: for every entry the number, and what a refusal leaves
 
 pub record Demand1 : Type 0 where
   pub check : (b : Book) (m : List ℕ) → Bytes m → Lowest (CheckApplies b m) (verdictNumber (checkOf b m))
-  pub check-keeps : (b : Book) (m : List ℕ) → verdictNumber (checkOf b m) ≢ done → receivedAfter (checkOf b m) (b .received) ≡ b .received
+  pub check-keeps : (b : Book) (m : List ℕ) → verdictNumber (checkOf b m) ≢ done
+      → (marksAfter (checkOf b m) (b .marks) ≡ b .marks) × (receivedAfter (checkOf b m) (b .received) ≡ b .received)
   -- both key entries: the number, and the empty part at the store's start
   pub key : (b : Book) (m : List ℕ) → Bytes m → Lowest (KeyApplies b m) (keyNumber (keyedOf b m))
   pub key-empty : (b : Book) (m : List ℕ) → keyNumber (keyedOf b m) ≢ done → (keyBytes b (keyedOf b m) ≡ []) × (keyOffset (keyedOf b m) ≡ 0)
@@ -100,3 +114,7 @@ pub record Demand1 : Type 0 where
   pub card-read-keeps : (b : Book) (card : List ℕ) → readNumber (readOf b card) ≢ done → readBook b card ≡ b
   pub card-write : (b : Book) (room : List ℕ) → Lowest (WriteApplies b room) (writeNumber (writeOf b (length room)))
   pub card-write-keeps : (b : Book) (room : List ℕ) → writeNumber (writeOf b (length room)) ≢ done → roomAfter b room ≡ room
+  pub card-move : (wanted : CardForm) (card room : List ℕ) → Bytes card
+      → Lowest (MoveApplies wanted card room) (writeNumber (moveOf wanted card (length room)))
+  pub card-move-keeps : (wanted : CardForm) (card room : List ℕ) → writeNumber (moveOf wanted card (length room)) ≢ done
+      → roomMoved wanted card room ≡ room

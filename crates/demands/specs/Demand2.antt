@@ -3,13 +3,14 @@
 use Prim.Native.Nat.{ℕ, _*_, _^_, _<_}
 use mathlib.Core.Path.{_≡_}
 use mathlib.Core.Logic.{_↔_}
+use mathlib.Core.Bool.{true}
 use mathlib.Core.List.{List}
 use mathlib.Core.Option.{some}
 use lib.ListN.{getD, set, take, drop}
-use Rattle.key_book.specs.Limits.{slotSize}
+use Rattle.key_book.specs.Limits.{slotSize, heard}
 use Rattle.key_book.specs.Book.{Book, Lent, Sound, rowOf, keyOf}
 use Rattle.delayed_auth.specs.declared.Verdict.the-variants.{Accepted}
-use Rattle.delayed_auth.specs.Check.{checkOf, receivedAfter}
+use Rattle.delayed_auth.specs.Check.{newTo, checkOf, marksAfter, receivedAfter}
 use Rattle.delayed_auth.specs.declared.Keyed.the-variants.{Row}
 use Rattle.delayed_auth.specs.Key.{keyedOf, keyBytes, keyOffset}
 use Rattle.delayed_auth.specs.Seal.{sealed, sealOf, sentAfter}
@@ -18,7 +19,8 @@ use Rattle.demands.specs.Accepts.{Accepts, Names, Seals}
 pub record Demand2 : Type 0 where
   -- on a sound book a message is accepted exactly when form, secret, counter and HMAC are right
   pub accepted : (b : Book) → Sound b → (m : List ℕ) (k c : ℕ) → (checkOf b m ≡ Accepted k c) ↔ Accepts b m k c
-  -- its counter is then stored: the received counters are the old ones with c at k
+  -- its row is then marked heard, and its counter stored: the marks and the received counters are the old ones but at k
+  pub marked : (b : Book) → Sound b → (m : List ℕ) (k c : ℕ) → Accepts b m k c → marksAfter (checkOf b m) (b .marks) ≡ set (b .marks) k heard
   pub stored : (b : Book) → Sound b → (m : List ℕ) (k c : ℕ) → Accepts b m k c → receivedAfter (checkOf b m) (b .received) ≡ set (b .received) k c
   -- on a sound book a message has a key exactly when its form is right and its secret is in the book
   pub keyed : (b : Book) → Sound b → (m : List ℕ) (k : ℕ) → (keyedOf b m ≡ Row k) ↔ Names b m k
@@ -31,6 +33,6 @@ pub record Demand2 : Type 0 where
   -- its counter is then stored
   pub sent : (b : Book) → Sound b → Lent b → (id : ℕ) (m : List ℕ) (k c : ℕ) (n : List ℕ) → Seals b id m k c n
       → sentAfter (sealOf b id m) (b .sent) ≡ set (b .sent) k c
-  -- a message we seal passes on any sound book with that key under that id and a lower stored counter
+  -- a message we seal passes on any sound book with that key under that id, in a row that is not heard or has a lower received counter
   pub passes : (b d : Book) → Sound b → Lent b → Sound d → (id : ℕ) → id < 2 ^ 32 → (m : List ℕ) (k c : ℕ) (n : List ℕ) → sealOf b id m ≡ sealed k c n
-      → (j : ℕ) → rowOf d id ≡ some j → keyOf d j ≡ keyOf b k → getD (d .received) j 0 < c → Accepts d n j c
+      → (j : ℕ) → rowOf d id ≡ some j → keyOf d j ≡ keyOf b k → newTo d j c ≡ true → Accepts d n j c

@@ -1,5 +1,6 @@
 -- Demand 3 (docs/RULES.md, 'The demands' and 'Runs'): whole runs of checks and seals, and the second runs that the network can make of them.
--- There is no load in a run: loading a card replaces the counters and starts a new run. Its one proof is proofs/Demand3.antt.
+-- There is no load in a run: loading a card replaces marks and counters and starts a new run. The proofs of demand 3 and of `RunsKeepSound` are in
+-- proofs/Demand3.antt.
 use Prim.Native.Nat.{ℕ, zero, suc, _<_}
 use mathlib.Core.Path.{_≡_}
 use mathlib.Core.Logic.{_≢_}
@@ -9,11 +10,11 @@ use lib.ListN.{length, getElem?}
 use Rattle.dhcp_message.specs.Message.{Passes27}
 use Rattle.dhcp_message.specs.Said.{named}
 use Rattle.dhcp_message.specs.Relay.{Relayed}
-use Rattle.key_book.specs.Book.{Book, Sound}
+use Rattle.key_book.specs.Book.{Book, bookOf, Sound}
 use Rattle.delayed_auth.specs.declared.Verdict.{Verdict}
 use Rattle.delayed_auth.specs.declared.Verdict.the-variants.{Accepted}
 use Rattle.delayed_auth.specs.declared.Sealing.{Sealing}
-use Rattle.delayed_auth.specs.Check.{checkOf, receivedAfter, verdictNumber}
+use Rattle.delayed_auth.specs.Check.{checkOf, marksAfter, receivedAfter, verdictNumber}
 use Rattle.delayed_auth.specs.Seal.{sealOf, sealingOf, messageAfter, sentAfter}
 use Rattle.demands.specs.Accepts.{Accepts}
 
@@ -36,9 +37,9 @@ answerOf b (seal id m) = wrote (sealingOf (sealOf b id m)) (messageAfter (sealOf
 -- the book as a step leaves it
 abbrev pub bookAfter : Book → Step → Book
 bookAfter b (check m) =
-    record { ids = b .ids; lengths = b .lengths; store = b .store; received = receivedAfter (checkOf b m) (b .received); sent = b .sent; rows = b .rows }
+    bookOf (b .ids) (b .lengths) (b .store) (marksAfter (checkOf b m) (b .marks)) (receivedAfter (checkOf b m) (b .received)) (b .sent) (b .rows)
 bookAfter b (seal id m) =
-    record { ids = b .ids; lengths = b .lengths; store = b .store; received = b .received; sent = sentAfter (sealOf b id m) (b .sent); rows = b .rows }
+    bookOf (b .ids) (b .lengths) (b .store) (b .marks) (b .received) (sentAfter (sealOf b id m) (b .sent)) (b .rows)
 
 -- each step finds the book as the last one left it: the answers in order, the book at the end, and the book before step i
 abbrev pub answers : Book → List Step → List Answer
@@ -53,6 +54,12 @@ abbrev pub bookAt : Book → List Step → ℕ → Book
 bookAt b [] i = b
 bookAt b (s ∷ ss) zero = b
 bookAt b (s ∷ ss) (suc i) = bookAt (bookAfter b s) ss i
+
+-- soundness reads marks, and received counters of rows not heard; no step breaks it, so all books of a run from a sound one are sound
+pub record RunsKeepSound : Type 0 where
+  pub step : (b : Book) → Sound b → (s : Step) → Sound (bookAfter b s)
+  pub before-each : (b : Book) → Sound b → (run : List Step) (i : ℕ) → Sound (bookAt b run i)
+  pub at-end : (b : Book) → Sound b → (run : List Step) → Sound (ending b run)
 
 -- ---- the second run
 
@@ -78,9 +85,10 @@ pub record Rearranged (b : Book) (first second : List Step) (place : ℕ → ℕ
   pub put-in : (p : ℕ) → p < length second → ((i : ℕ) → i < length first → place i ≢ p)
       → (m : List ℕ) × (getElem? second p ≡ some (check m)) × ((k c : ℕ) → Accepts (bookAt b second p) m k c → ⊥)
 
--- every step of the first run gets the same answer in the second, and all counters end the same
+-- every step of the first run gets the same answer in the second, and all marks and counters end the same
 pub record SameRun (b : Book) (first second : List Step) (place : ℕ → ℕ) : Type 0 where
   pub same-answers : (i : ℕ) → i < length first → getElem? (answers b second) (place i) ≡ getElem? (answers b first) i
+  pub same-marks : ending b second .marks ≡ ending b first .marks
   pub same-received : ending b second .received ≡ ending b first .received
   pub same-sent : ending b second .sent ≡ ending b first .sent
 

@@ -1,5 +1,6 @@
 -- What an entry's answer depends on, and that it depends on nothing else (docs/RULES.md, 'The key book', 'Check' and 'Seal'):
--- not on another row's key or counter, not on slot bytes past a key, not on rows from r on. Its one proof is proofs/Dependence.antt.
+-- on the soundness of the book and on the ids; then on the key, the mark and the counter of the row found. Not on another row's but through soundness,
+-- not on slot bytes past a key, not on rows from r on. Its one proof is proofs/Dependence.antt.
 use Prim.Native.Nat.{ℕ, _+_, _*_, _<_}
 use mathlib.Core.Path.{_≡_}
 use mathlib.Core.List.{List}
@@ -27,6 +28,7 @@ pub record SameSecrets (a b : Book) : Type 0 where
 pub record SameForCheck (a b : Book) (m : List ℕ) : Type 0 where
   pub secrets : SameSecrets a b
   pub key : (k : ℕ) → Sound a → Names a m k → keyOf a k ≡ keyOf b k
+  pub mark : (k : ℕ) → Sound a → Names a m k → getD (a .marks) k 0 ≡ getD (b .marks) k 0
   pub received : (k : ℕ) → Sound a → Names a m k → getD (a .received) k 0 ≡ getD (b .received) k 0
 
 -- two books agree in all that a seal under the id goes by
@@ -35,7 +37,7 @@ pub record SameForSeal (a b : Book) (id : ℕ) : Type 0 where
   pub key : (k : ℕ) → Sound a → rowOf a id ≡ some k → keyOf a k ≡ keyOf b k
   pub sent : (k : ℕ) → Sound a → rowOf a id ≡ some k → getD (a .sent) k 0 ≡ getD (b .sent) k 0
 
--- two books agree in their sizes and in the rows in use: id, key length, as many bytes of the slot, both counters
+-- two books agree in their sizes and in the rows in use: id, key length, mark (`Alike`), as many bytes of the slot, both counters
 pub record SameInUse (a b : Book) : Type 0 where
   pub alike : Alike a b
   pub bytes : (k i : ℕ) → k < a .rows → i < getD (a .lengths) k 0 → getD (a .store) (slotSize * k + i) 0 ≡ getD (b .store) (slotSize * k + i) 0
@@ -44,10 +46,11 @@ pub record SameInUse (a b : Book) : Type 0 where
 
 pub record Dependence : Type 0 where
   pub check : (a b : Book) (m : List ℕ) → SameForCheck a b m → checkOf a m ≡ checkOf b m
-  -- the key entry reads no counter
+  -- the key entry reads marks and counters through soundness alone
   pub keyed : (a b : Book) (m : List ℕ) → SameSecrets a b → keyedOf a m ≡ keyedOf b m
   pub key-bytes : (a b : Book) (m : List ℕ) → SameSecrets a b → ((k : ℕ) → Sound a → Names a m k → keyOf a k ≡ keyOf b k)
       → keyBytes a (keyedOf a m) ≡ keyBytes b (keyedOf b m)
+  -- and so does a seal, but for its row's sent counter
   pub seal : (a b : Book) (id : ℕ) (m : List ℕ) → SameForSeal a b id → sealOf a id m ≡ sealOf b id m
   -- counter, id and MAC found in the message don't matter: with any others in their place the outcome is the same, and so are a sealed message's bytes
   pub found-fields : (b : Book) (id : ℕ) (m : List ℕ) (a : Auth) (other : List ℕ) → formOf m ≡ Full a → length other ≡ sealSize

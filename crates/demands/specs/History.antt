@@ -1,15 +1,17 @@
--- The book against its history, for the runs of demand 3 (docs/RULES.md, 'Runs'): what the counters of a secret at the end of a run say of what
+-- The book against its history, for the runs of demand 3 (docs/RULES.md, 'Runs'): what mark and counters of a secret at the end of a run say of what
 -- happened in it, and that one secret's story doesn't depend on another's. For runs of checks and seals. Its one proof is proofs/History.antt.
 use Prim.Native.Nat.{ℕ, _+_, _≤_, _<_}
 use mathlib.Core.Path.{_≡_}
 use mathlib.Core.Logic.{_≢_}
-use mathlib.Core.Bool.{cond}
+use mathlib.Core.Bool.{Bool, true, cond}
 use mathlib.Core.List.{List, [], _∷_, _++_}
 use mathlib.Core.Option.{Option, none, some}
 use lib.Dec.{eqb}
 use lib.ListN.{length, getD, getElem?, take}
 use Rattle.dhcp_message.specs.Said.{named}
-use Rattle.key_book.specs.Book.{Book, Sound, rowOf, keyOf}
+use Rattle.dhcp_message.specs.Replay.{isNew}
+use Rattle.key_book.specs.Limits.{heard}
+use Rattle.key_book.specs.Book.{Book, Sound, heardAt, rowOf, keyOf}
 use Rattle.delayed_auth.specs.declared.Verdict.{Verdict}
 use Rattle.delayed_auth.specs.declared.Verdict.the-variants.{Accepted, Refused}
 use Rattle.delayed_auth.specs.declared.Sealing.{Sealing}
@@ -57,6 +59,11 @@ abbrev pub RisesFrom : ℕ → List ℕ → Type 0
 RisesFrom n [] = Unit {0}
 RisesFrom n (c ∷ cs) = (n < c) × RisesFrom c cs
 
+-- the first is new to a row that was heard or not and had this received counter, and from there on they rise
+abbrev pub RisesNew : (was : Bool) → ℕ → List ℕ → Type 0
+RisesNew was n [] = Unit {0}
+RisesNew was n (c ∷ cs) = (isNew was n c ≡ true) × RisesFrom c cs
+
 -- one of them, and none is greater
 pub record Greatest (n : ℕ) (cs : List ℕ) : Type 0 where
   pub place : ℕ
@@ -68,32 +75,39 @@ pub data Concerns (id : ℕ) : Step → Type 0 where
   names-it : {m : List ℕ} → named m ≡ some id → Concerns id (check m)
   under-it : {m : List ℕ} → Concerns id (seal id m)
 
--- Two books of the same sizes with the same ids in use, and as many; this secret's key and counters are the same, and every other secret's
--- key and counters may be any.
+-- Two books of the same sizes with the same ids in use, and as many; this secret's key, mark and counters are the same, and every other secret's
+-- may be any.
 pub record OnlyOthersDiffer (id : ℕ) (a b : Book) : Type 0 where
   pub room : length (a .ids) ≡ length (b .ids)
   pub ids : take (a .rows) (a .ids) ≡ take (b .rows) (b .ids)
   pub key : (k : ℕ) → rowOf a id ≡ some k → keyOf a k ≡ keyOf b k
+  pub mark : (k : ℕ) → rowOf a id ≡ some k → getD (a .marks) k 0 ≡ getD (b .marks) k 0
   pub received : (k : ℕ) → rowOf a id ≡ some k → getD (a .received) k 0 ≡ getD (b .received) k 0
   pub sent : (k : ℕ) → rowOf a id ≡ some k → getD (a .sent) k 0 ≡ getD (b .sent) k 0
 
--- the secret gets the same answers and bytes in both, step by step, and its counters end the same
+-- the secret gets the same answers and bytes in both, step by step, and its mark and counters end the same
 pub record SameFor (id : ℕ) (a b : Book) (run : List Step) : Type 0 where
   pub same-answers : (i : ℕ) (s : Step) → getElem? run i ≡ some s → Concerns id s → getElem? (answers a run) i ≡ getElem? (answers b run) i
+  pub same-mark : (k : ℕ) → rowOf a id ≡ some k → getD (ending a run .marks) k 0 ≡ getD (ending b run .marks) k 0
   pub same-received : (k : ℕ) → rowOf a id ≡ some k → getD (ending a run .received) k 0 ≡ getD (ending b run .received) k 0
   pub same-sent : (k : ℕ) → rowOf a id ≡ some k → getD (ending a run .sent) k 0 ≡ getD (ending b run .sent) k 0
 
 -- ---- for each secret of a sound book, its row being k, and any run
 
 pub record History : Type 0 where
-  -- the counters of its accepted messages rise strictly, the first above the starting one
+  -- the counters of its accepted messages rise strictly, the first above the starting one where the row was heard at the start
   pub accepted-rise : (b : Book) → Sound b → (id k : ℕ) → rowOf b id ≡ some k → (run : List Step)
-      → RisesFrom (getD (b .received) k 0) (acceptedIn id b run)
+      → RisesNew (heardAt b k) (getD (b .received) k 0) (acceptedIn id b run)
   -- the stored received counter is the starting one where none was accepted, else the greatest of them
   pub received-stays : (b : Book) → Sound b → (id k : ℕ) → rowOf b id ≡ some k → (run : List Step)
       → acceptedIn id b run ≡ [] → getD (ending b run .received) k 0 ≡ getD (b .received) k 0
   pub received-greatest : (b : Book) → Sound b → (id k : ℕ) → rowOf b id ≡ some k → (run : List Step)
       → acceptedIn id b run ≢ [] → Greatest (getD (ending b run .received) k 0) (acceptedIn id b run)
+  -- the row is heard where one was accepted, else its mark is the starting one
+  pub mark-stays : (b : Book) → Sound b → (id k : ℕ) → rowOf b id ≡ some k → (run : List Step)
+      → acceptedIn id b run ≡ [] → getD (ending b run .marks) k 0 ≡ getD (b .marks) k 0
+  pub mark-heard : (b : Book) → Sound b → (id k : ℕ) → rowOf b id ≡ some k → (run : List Step)
+      → acceptedIn id b run ≢ [] → getD (ending b run .marks) k 0 ≡ heard
   -- the sent counter is the starting one plus the number of seals done
   pub sent-counts : (b : Book) → Sound b → (id k : ℕ) → rowOf b id ≡ some k → (run : List Step)
       → getD (ending b run .sent) k 0 ≡ getD (b .sent) k 0 + sealsIn id b run

@@ -1,4 +1,4 @@
--- Counters never wrap (docs/RULES.md, 'Check'): after 2^64 - 1 is accepted, that row accepts no more. In every run, whatever
+-- Counters never wrap (docs/RULES.md, 'Check'): after 2^64 - 1 is accepted, on a row heard or not, that row accepts no more. In every run, whatever
 -- stands between; messages are lists of bytes. The one proof is proofs/LastCounter.antt.
 use Prim.Native.Nat.{ℕ, _<_}
 use mathlib.Core.Path.{_≡_}

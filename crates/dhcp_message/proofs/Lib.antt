@@ -11,6 +11,7 @@ mod Covers
 pub mod Images
 mod Fields
 pub mod Seals
+pub mod Replays
 mod Changes
 pub mod Relays
 pub mod Lowest

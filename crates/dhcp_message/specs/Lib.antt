@@ -7,4 +7,5 @@ pub mod Scan
 pub mod Numbers
 pub mod Relay
 pub mod Seal
+pub mod Replay
 pub mod Bench

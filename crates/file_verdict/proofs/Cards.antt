@@ -10,16 +10,16 @@ use Rattle.octets.specs.Bytes.{Bytes}
 use Rattle.refusal.specs.declared.Refusal.the-variants.{MalformedCard}
 use Rattle.key_book.specs.Limits.{rowsMost, slotSize}
 use Rattle.key_book.specs.Book.{Sized}
-use Rattle.book_card.specs.Card.{Row, InOrder, cardOf}
+use Rattle.book_card.specs.Card.{Row, CardFor, NoCard}
 use Rattle.book_card.specs.Reader.{readCard}
 use Rattle.book_card.specs.Reading.{loaded}
+use Rattle.book_card.proofs.Forms.{mark-small}
 use Rattle.book_card.proofs.Says.{card-says, malformed-says}
 use Rattle.book_card.proofs.Ends.{malformed, read, case-read}
-use Rattle.card_laws.proofs.Largest.{largest-card}
+use Rattle.card_laws.proofs.Largest.{is-bytes, largest-card}
 use Rattle.verdict_line.specs.declared.Line.the-variants.{Refused, Unreadable}
 use Rattle.file_verdict.specs.declared.Loaded.the-variants.{Stopped, Rows}
 use Rattle.file_verdict.specs.Files.{fileMost, readable, loadedOf, bookLoaded, emptyBook}
-use Rattle.file_verdict.specs.Laws.{IsCardOf}
 use Rattle.file_verdict.proofs.Contents.{readable-none, readable-fits, readable-too-large}
 use Rattle.file_verdict.proofs.Stages.{card-none, card-read, book-read}
 
@@ -31,7 +31,7 @@ empty-sized : Sized emptyBook
 empty-sized =
     let l = empty-long in
     let s = length-replicate {A = ℕ} (rowsMost * slotSize) 0 in
-    record { room = omega arith; lengths-agree = refl; store-agrees = omega arith; received-agree = refl; sent-agree = refl }
+    record { room = omega arith; lengths-agree = refl; store-agrees = omega arith; marks-agree = refl; received-agree = refl; sent-agree = refl }
 
 pub card-missing : Stopped Unreadable ≡ loadedOf emptyBook none
 card-missing = card-none emptyBook none readable-none .0
@@ -39,20 +39,24 @@ card-missing = card-none emptyBook none readable-none .0
 pub card-too-large : (card : List ℕ) → fileMost < length card → Stopped Unreadable ≡ loadedOf emptyBook (some card)
 card-too-large card h = card-none emptyBook (some card) (readable-too-large card h) .0
 
-pub card-malformed : (card : List ℕ) → length card ≤ fileMost → Bytes card → ((rows : List Row) → InOrder rows → card ≡ cardOf rows → ⊥)
+pub card-malformed : (card : List ℕ) → length card ≤ fileMost → Bytes card → NoCard card
     → Stopped (Refused MalformedCard) ≡ loadedOf emptyBook (some card)
 card-malformed card h b f =
     card-read emptyBook (some card) (readable-fits card h) (sym (case-read emptyBook card (malformed empty-sized (malformed-says card b .1 f)) .0)) refl
 
-module _ (card : List ℕ) (rows : List Row) (c : IsCardOf card rows) where
+module _ (card : List ℕ) (rows : List Row) (c : CardFor rows card) where
   card-rows : readCard card ≡ some rows
-  card-rows = card-says card (c .bytes) rows .1 (c .in-order, c .is-card)
+  card-rows = card-says card (is-bytes (c .0) rows card (c .1)) rows .1 c
 
   rows-room : length rows ≤ length (emptyBook .ids)
-  rows-room = let f = c .in-order .few in let l = empty-long in omega arith
+  rows-room = let f = c .1 .order .few in let l = empty-long in omega arith
 
   card-small : readable (some card) ≡ some card
-  card-small = readable-fits card (let m = largest-card .most rows (c .in-order) in let l = ap length (c .is-card) in omega arith)
+  card-small =
+      let m = largest-card .most (c .0) rows (c .1 .order) in
+      let k = mark-small (c .0) in
+      let l = ap length (c .1 .bytes) in
+      readable-fits card (omega arith)
 
   pub card-loaded : (Rows (length rows) ≡ loadedOf emptyBook (some card)) × (bookLoaded emptyBook (some card) ≡ loaded emptyBook rows)
   card-loaded =

@@ -13,10 +13,12 @@ use Rattle.dhcp_message.specs.Options.{decodeAt}
 use Rattle.dhcp_message.specs.Message.{checkedTokens, checkedOf}
 use Rattle.dhcp_message.specs.Said.{saidBy, saidOf, formOf}
 use Rattle.dhcp_message.specs.Image.{imageOf}
-use Rattle.key_book.specs.Book.{sound, sized, ascending, keySizes, allBelow, placeFrom, rowIn, keyFits, keyIn}
+use Rattle.dhcp_message.specs.Replay.{isNew}
+use Rattle.key_book.specs.Book.{sound, sized, ascending, keySizes, markFits, marksFit, allBelow, placeFrom, rowIn, keyFits, keyIn}
 use Rattle.delayed_auth.specs.Admit.{admittedSaid}
 use Rattle.delayed_auth.specs.Check.{sameBytes, judgedRow, judgedSaid, checkOf}
-use Rattle.book_card.specs.Reader.{frontOf, frontFrom, rowsInFront, readCard}
+use Rattle.book_card.specs.Layout.{markSize, rowKind}
+use Rattle.book_card.specs.Reader.{formIn, markIn, frontOf, frontFrom, rowsInFront, readCard}
 use Rattle.book_card.specs.Reading.{slotsOf, loaded, readOf, rowsIn, readBook}
 use Rattle.file_verdict.specs.Files.{readable, loadedOf, bookLoaded, messageLine, lineFor}
 use Rattle.file_verdict.specs.Example9.{Example9}
@@ -24,9 +26,9 @@ use Rattle.file_verdict.proofs.Contents.{readable-fits, readable-too-la
 
 pub example-9 : Example9
 unfolding hmac masked md5 padded padding blocks compress round steps stepAt stepWith rotl auxiliary wordNo additive rotations load loadTo
-    output saidOf checkedOf checkedTokens decodeAt saidBy formOf imageOf written sound sized ascending keySizes allBelow placeFrom rowIn keyFits keyIn
-    sameBytes judgedRow judgedSaid admittedSaid checkOf le value littleAt bigAt frontOf frontFrom rowsInFront readCard filled slotsOf loaded readOf rowsIn
-    readBook readable loadedOf bookLoaded messageLine lineFor
+    output saidOf checkedOf checkedTokens decodeAt saidBy formOf imageOf written sound sized ascending keySizes markFits marksFit allBelow placeFrom rowIn
+    keyFits keyIn isNew sameBytes judgedRow judgedSaid admittedSaid checkOf le value littleAt bigAt markSize rowKind formIn markIn frontOf frontFrom
+    rowsInFront readCard filled slotsOf loaded readOf rowsIn readBook readable loadedOf bookLoaded messageLine lineFor
 example-9 = record {
   put-right = refl;
   mac-bit-off = refl;
@@ -34,6 +36,10 @@ example-9 = record {
   no-message = refl;
   no-card = refl;
   bad-card = λ x message. refl;
+  new-card = λ message. refl;
+  not-heard = refl;
+  heard = refl;
+  bad-mark = λ message. refl;
   largest = λ x. let l = length-replicate {A = ℕ} 65535 x in readable-fits (replicate 65535 x) (omega arith);
   too-large = λ x. let l = length-replicate {A = ℕ} 65536 x in readable-too-large (replicate 65536 x) (omega arith);
 }

@@ -9,14 +9,14 @@ use Rattle.refusal.specs.declared.Refusal.the-variants.{MalformedCard}
 use Rattle.key_book.specs.Book.{Book}
 use Rattle.delayed_auth.specs.declared.Verdict.{Verdict}
 use Rattle.delayed_auth.specs.Check.{checkOf}
-use Rattle.book_card.specs.Card.{Row}
+use Rattle.book_card.specs.Card.{Row, CardFor}
 use Rattle.book_card.specs.Reading.{loaded}
 use Rattle.verdict_line.specs.declared.Line.{Line}
 use Rattle.verdict_line.specs.declared.Line.the-variants.{Refused, Unreadable}
 use Rattle.file_verdict.specs.declared.Loaded.the-variants.{Stopped, Rows}
 use Rattle.file_verdict.specs.Files.{fileMost}
 use Rattle.file_verdict.specs.Files.{loadedOf, bookLoaded, messageLine, verdictLine, emptyBook, lineAfter, lineFor}
-use Rattle.file_verdict.specs.Laws.{ContentSays, IsCardOf, LineSays}
+use Rattle.file_verdict.specs.Laws.{ContentSays, LineSays}
 use Rattle.file_verdict.proofs.Contents.{no-file, held, not-held, readable-none, readable-fits, readable-too-large}
 use Rattle.file_verdict.proofs.Cards.{card-missing, card-too-large, card-malformed, card-loaded}
 use Rattle.file_verdict.proofs.Reading.{read-failed, read-end, read-more, read-too-much}
@@ -43,7 +43,7 @@ pub line-rows : (card message : Option (List ℕ)) (n : ℕ) → Rows n ≡ load
 unfolding lineFor
 line-rows card message n e = sym (ap (lineAfter card message) e)
 
-module _ (card : List ℕ) (rows : List Row) (c : IsCardOf card rows) where
+module _ (card : List ℕ) (rows : List Row) (c : CardFor rows card) where
   by-rows : (message : Option (List ℕ)) → lineFor (some card) message ≡ messageLine (loaded emptyBook rows) message
   by-rows message =
       let l = card-loaded card rows c in

@@ -14,7 +14,7 @@ use Rattle.key_book.specs.Limits.{rowsMost, slotSize}
 use Rattle.key_book.specs.Book.{Book, bookOf}
 use Rattle.delayed_auth.specs.declared.Verdict.{Verdict}
 use Rattle.delayed_auth.specs.declared.Verdict.the-variants.{Accepted as CheckAccepted, Refused as CheckRefused}
-use Rattle.delayed_auth.specs.Check.{checkOf, receivedAfter}
+use Rattle.delayed_auth.specs.Check.{checkOf, marksAfter, receivedAfter}
 use Rattle.book_card.specs.declared.ReadAnswer.{ReadAnswer}
 use Rattle.book_card.specs.declared.ReadAnswer.the-variants.{Refused as ReadRefused, Rows as ReadRows}
 use Rattle.book_card.specs.Reading.{readOf, readBook}
@@ -97,6 +97,14 @@ lineFrom b (some message) = verdictLine (checkOf b message)
 unfoldable pub messageLine : Book → Option (List ℕ) → Line
 messageLine b message = lineFrom b (readable message)
 
+-- the marks afterwards
+abbrev pub marksFrom : Book → Option (List ℕ) → List ℕ
+marksFrom b none = b .marks
+marksFrom b (some message) = marksAfter (checkOf b message) (b .marks)
+
+unfoldable pub marksLeft : Book → Option (List ℕ) → List ℕ
+marksLeft b message = marksFrom b (readable message)
+
 -- the received counters afterwards
 abbrev pub receivedFrom : Book → Option (List ℕ) → List ℕ
 receivedFrom b none = b .received
@@ -109,7 +117,7 @@ receivedLeft b message = receivedFrom b (readable message)
 
 -- a book with room for as many rows as a card may have, and nothing in it
 abbrev pub emptyBook : Book
-emptyBook = bookOf (zeros rowsMost) (zeros rowsMost) (zeros (rowsMost * slotSize)) (zeros rowsMost) (zeros rowsMost) 0
+emptyBook = bookOf (zeros rowsMost) (zeros rowsMost) (zeros (rowsMost * slotSize)) (zeros rowsMost) (zeros rowsMost) (zeros rowsMost) 0
 
 abbrev pub lineAfter : (card message : Option (List ℕ)) → Loaded → Line
 lineAfter card message (Stopped line) = line

@@ -3,10 +3,11 @@
 // check said (`line_of`), are those of the program `judge_capture` too.
 // Not here: opening and reading the files (program_files), and the line's bytes (verdict_line).
 //
-// The book is lent as ids, key lengths, key store, received counters, sent counters and row count, in this order.
+// The book is lent as ids, key lengths, key store, marks, received counters, sent counters and row count, in this order.
 ghost use mathlib.Core.Path.{_≡_};
 ghost use Rattle.key_book.specs.Book.{bookOf};
-ghost use Rattle.file_verdict.specs.Files.{fileIn, MayBeJudged, loadedOf, rowsLoaded, bookLoaded, verdictLine, messageLine, receivedLeft, afterRead};
+ghost use Rattle.file_verdict.specs.Files.{fileIn, MayBeJudged, loadedOf, rowsLoaded, bookLoaded, verdictLine, messageLine};
+ghost use Rattle.file_verdict.specs.Files.{marksLeft, receivedLeft, afterRead};
 use book_card::ReadAnswer;
 use delayed_auth::Verdict;
 use verdict_line::Line;
@@ -81,16 +82,17 @@ pub fn load_card(
     ids: &mut [u32],
     lengths: &mut [u8],
     store: &mut [u8],
+    marks: &mut [u8],
     received: &mut [u64],
     sent: &mut [u64],
 ) -> Loaded
     ensures answer { λ r. ⌜
-        (let b = bookOf (now (ids .entry)) (now (lengths .entry)) (now (store .entry)) (now (received .entry)) (now (sent .entry)) 0 in
+        (let b = bookOf (now (ids .entry)) (now (lengths .entry)) (now (store .entry)) (now (marks .entry)) (now (received .entry)) (now (sent .entry)) 0 in
         r ≡ loadedOf b (fileIn (now (room .entry)) content))
         ⌝ }
     ensures after { λ r. ⌜
-        (let b = bookOf (now (ids .entry)) (now (lengths .entry)) (now (store .entry)) (now (received .entry)) (now (sent .entry)) 0 in
-        bookOf (now (ids .exit)) (now (lengths .exit)) (now (store .exit)) (now (received .exit)) (now (sent .exit)) (rowsLoaded r)
+        (let b = bookOf (now (ids .entry)) (now (lengths .entry)) (now (store .entry)) (now (marks .entry)) (now (received .entry)) (now (sent .entry)) 0 in
+        bookOf (now (ids .exit)) (now (lengths .exit)) (now (store .exit)) (now (marks .exit)) (now (received .exit)) (now (sent .exit)) (rowsLoaded r)
         ≡ bookLoaded b (fileIn (now (room .entry)) content))
         ⌝ }
 {
@@ -98,7 +100,7 @@ pub fn load_card(
     let Content::Size(size) = card else {
         return Loaded::Stopped(Line::Unreadable);
     };
-    let answer = book_card::card_read(&room[..size], ids, lengths, store, received, sent);
+    let answer = book_card::card_read(&room[..size], ids, lengths, store, marks, received, sent);
     match answer {
         ReadAnswer::Refused(refusal) => Loaded::Stopped(Line::Refused(refusal)),
         ReadAnswer::Rows(rows) => Loaded::Rows(rows),
@@ -122,16 +124,21 @@ pub fn message_line(
     ids: &[u32],
     lengths: &[u8],
     store: &[u8],
+    marks: &mut [u8],
     received: &mut [u64],
     sent: &[u64],
     rows: usize,
 ) -> Line
     ensures answer { λ r. ⌜
-        (let b = bookOf (now (ids .entry)) (now (lengths .entry)) (now (store .entry)) (now (received .entry)) (now (sent .entry)) rows in
+        (let b = bookOf (now (ids .entry)) (now (lengths .entry)) (now (store .entry)) (now (marks .entry)) (now (received .entry)) (now (sent .entry)) rows in
         r ≡ messageLine b (fileIn (now (room .entry)) content))
         ⌝ }
+    ensures marked { λ _. ⌜
+        (let b = bookOf (now (ids .entry)) (now (lengths .entry)) (now (store .entry)) (now (marks .entry)) (now (received .entry)) (now (sent .entry)) rows in
+        now (marks .exit) ≡ marksLeft b (fileIn (now (room .entry)) content))
+        ⌝ }
     ensures stored { λ _. ⌜
-        (let b = bookOf (now (ids .entry)) (now (lengths .entry)) (now (store .entry)) (now (received .entry)) (now (sent .entry)) rows in
+        (let b = bookOf (now (ids .entry)) (now (lengths .entry)) (now (store .entry)) (now (marks .entry)) (now (received .entry)) (now (sent .entry)) rows in
         now (received .exit) ≡ receivedLeft b (fileIn (now (room .entry)) content))
         ⌝ }
 {
@@ -139,6 +146,15 @@ pub fn message_line(
     let Content::Size(size) = message else {
         return Line::Unreadable;
     };
-    let verdict = delayed_auth::check(ids, lengths, store, received, sent, rows, &room[..size]);
+    let verdict = delayed_auth::check(
+        ids,
+        lengths,
+        store,
+        marks,
+        received,
+        sent,
+        rows,
+        &room[..size],
+    );
     line_of(verdict)
 }

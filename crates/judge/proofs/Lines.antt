@@ -14,9 +14,9 @@ use Rattle.judge.specs.Program.{CardLine}
 pub card-stopped : (b : Book) {loaded : Loaded} {line : Line} → loaded ≡ Stopped line → CardLine loaded b line
 card-stopped b {line = line} m card e k = (none, sym (line-stopped card none line (sym m ∙ e)))
 
-pub card-rows : (ids lengths store received sent : List ℕ) {loaded : Loaded} {n : ℕ} → loaded ≡ Rows n → (message : Option (List ℕ)) {line : Line}
-    → line ≡ messageLine (bookOf ids lengths store received sent n) message
-    → CardLine loaded (bookOf ids lengths store received sent (rowsLoaded loaded)) line
-card-rows ids lengths store received sent {n = n} m message l card e b =
-    let q : bookOf ids lengths store received sent n ≡ bookLoaded emptyBook card = rw m at b in
+pub card-rows : (ids lengths store marks received sent : List ℕ) {loaded : Loaded} {n : ℕ} → loaded ≡ Rows n → (message : Option (List ℕ)) {line : Line}
+    → line ≡ messageLine (bookOf ids lengths store marks received sent n) message
+    → CardLine loaded (bookOf ids lengths store marks received sent (rowsLoaded loaded)) line
+card-rows ids lengths store marks received sent {n = n} m message l card e b =
+    let q : bookOf ids lengths store marks received sent n ≡ bookLoaded emptyBook card = rw m at b in
     (message, l ∙ ap (λ (b : Book). messageLine b message) q ∙ sym (line-rows card message n (sym m ∙ e)))

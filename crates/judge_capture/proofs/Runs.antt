@@ -21,7 +21,7 @@ use Rattle.capture.specs.declared.RecordHeader.the-variants.{Frame}
 use Rattle.capture.specs.Layout.{fileHeaderSize}
 use Rattle.capture.specs.Records.{Record, Records, recordHeaderOf, inFront, recordsFrom, recordsOf}
 use Rattle.capture.proofs.Records.{records-say, next-by-header}
-use Rattle.capture_verdict.specs.Lines.{recordLine, receivedBy, withReceived, bookBy, recordLines, bookAtEnd, numbered}
+use Rattle.capture_verdict.specs.Lines.{recordLine, marksBy, receivedBy, withHeard, bookBy, recordLines, bookAtEnd, numbered}
 use Rattle.judge_capture.specs.Window.{window, RecordThere, NextIs, endLine, CaptureThere}
 use Rattle.judge_capture.specs.declared.Next.{Next}
 use Rattle.judge_capture.specs.declared.Next.the-variants.{Record as ARecord, AtEnd, Cut, Failed}
@@ -75,24 +75,35 @@ module _ {order : Order} {first : List ℕ} {records : List Record} {left : List
 
 -- ---- the book
 
--- the received counters are all that records change
-at-end-received : (b : Book) (records : List Record) → bookAtEnd b records ≡ withReceived b (bookAtEnd b records .received)
-at-end-received b [] = refl
-at-end-received b (r ∷ rs) = at-end-received (bookBy b (r .frame) (r .original)) rs
+-- the marks and the received counters are all that records change
+at-end-heard : (b : Book) (records : List Record) → bookAtEnd b records ≡ withHeard b (bookAtEnd b records .marks) (bookAtEnd b records .received)
+at-end-heard b [] = refl
+at-end-heard b (r ∷ rs) = at-end-heard (bookBy b (r .frame) (r .original)) rs
 
 at-end-snoc : (b : Book) (records : List Record) (r : Record) → bookAtEnd b (records ++ (r ∷ [])) ≡ bookBy (bookAtEnd b records) (r .frame) (r .original)
 at-end-snoc b [] r = refl
 at-end-snoc b (x ∷ rs) r = at-end-snoc (bookBy b (x .frame) (x .original)) rs r
 
--- one record more
-counters-turn : (b : Book) (records : List Record) (frame : List ℕ) (original : ℕ) {received after : List ℕ} → received ≡ bookAtEnd b records .received
-    → after ≡ receivedBy (withReceived b received) frame original
-    → after ≡ bookAtEnd b (records ++ (record { frame = frame; original = original } ∷ [])) .received
-counters-turn b records frame original c e =
-    let k = ap (withReceived b) c ∙ sym (at-end-received b records) in
-    e
-    ∙ ap (λ (x : Book). receivedBy x frame original) k
-    ∙ sym (ap (λ (x : Book). x .received) (at-end-snoc b records (record { frame = frame; original = original })))
+module _ (b : Book) (records : List Record) {marks received : List ℕ}
+    (m : marks ≡ bookAtEnd b records .marks) (c : received ≡ bookAtEnd b records .received) where
+  book-now : withHeard b marks received ≡ bookAtEnd b records
+  book-now = ap₂ (withHeard b) m c ∙ sym (at-end-heard b records)
+
+  -- one record more
+  module _ (frame : List ℕ) (original : ℕ) where
+    abbrev with-it : List Record
+    with-it = records ++ (record { frame = frame; original = original } ∷ [])
+
+    book-next : bookAtEnd b with-it ≡ bookBy (withHeard b marks received) frame original
+    book-next =
+        at-end-snoc b records (record { frame = frame; original = original })
+        ∙ ap (λ (x : Book). bookBy x frame original) (sym book-now)
+
+    marks-turn : {after : List ℕ} → after ≡ marksBy (withHeard b marks received) frame original → after ≡ bookAtEnd b with-it .marks
+    marks-turn e = e ∙ sym (ap (λ (x : Book). x .marks) book-next)
+
+    counters-turn : {after : List ℕ} → after ≡ receivedBy (withHeard b marks received) frame original → after ≡ bookAtEnd b with-it .received
+    counters-turn e = e ∙ sym (ap (λ (x : Book). x .received) book-next)
 
 -- ---- the lines
 
@@ -144,52 +155,57 @@ put-waits {out} {new} {line} {size} {r} {left} {room} p h w l e = rw (e, l, sym 
 -- ---- what each turn keeps
 
 -- so many records have been judged, these bytes are left, and their lines leave this waiting
-pub record Progress (order : Order) (b : Book) (first received : List ℕ) (number : ℕ) (left : List ℕ) (room : ℕ) (text : List ℕ) : Type 0 where
+pub record Progress (order : Order) (b : Book) (first marks received : List ℕ) (number : ℕ) (left : List ℕ) (room : ℕ) (text : List ℕ) : Type 0 where
   pub records : List Record
   pub counted : number ≡ length records
   pub judging : Judging order first records left
+  pub rows-heard : marks ≡ bookAtEnd b records .marks
   pub counters : received ≡ bookAtEnd b records .received
   pub waits : text ≡ afterLines room [] (numbered 1 (recordLines b records))
 
-pub progress-start : (order : Order) (b : Book) (first : List ℕ) (room : ℕ) → Progress order b first (b .received) 0 first room []
-progress-start order b first room = record { records = []; counted = refl; judging = judging-start order first; counters = refl; waits = refl }
+pub progress-start : (order : Order) (b : Book) (first : List ℕ) (room : ℕ) → Progress order b first (b .marks) (b .received) 0 first room []
+progress-start order b first room =
+    record { records = []; counted = refl; judging = judging-start order first; rows-heard = refl; counters = refl; waits = refl }
 
-module _ {order : Order} {b : Book} {first received left : List ℕ} {number room : ℕ} {text : List ℕ}
-    (p : Progress order b first received number left room text) where
-  pub progress-turn : {after : List ℕ} {at end original until : ℕ} {counters out new : List ℕ} {size r waiting : ℕ}
+module _ {order : Order} {b : Book} {first marks received left : List ℕ} {number room : ℕ} {text : List ℕ}
+    (p : Progress order b first marks received number left room text) where
+  pub progress-turn : {after : List ℕ} {at end original until : ℕ} {heard counters out new : List ℕ} {size r waiting : ℕ}
       → RecordThere order left after at end original until
-      → PutAt out size (numberedLine (number + 1) (recordLine (withReceived b received) (window after at end) original)) new r
-      → counters ≡ receivedBy (withReceived b received) (window after at end) original
+      → PutAt out size (numberedLine (number + 1) (recordLine (withHeard b marks received) (window after at end) original)) new r
+      → heard ≡ marksBy (withHeard b marks received) (window after at end) original
+      → counters ≡ receivedBy (withHeard b marks received) (window after at end) original
       → take size out ≡ text → size ≤ length out → r ≤ length new → length new ≡ room → waiting ≡ cond (leb (r + numberedMost) (length new)) r 0
-      → Progress order b first counters (number + 1) (window after end until) room (take waiting new)
-  progress-turn {after} {at} {end} {original} {until} t l e x h w z m =
+      → Progress order b first heard counters (number + 1) (window after end until) room (take waiting new)
+  progress-turn {after} {at} {end} {original} {until} t l d e x h w z m =
       let c = p .counted in
-      let k = ap (withReceived b) (p .counters) ∙ sym (at-end-received b (p .records)) in
       let n : number + 1 ≡ 1 + length (p .records) = omega arith in
       record {
         records = p .records ++ (record { frame = window after at end; original = original } ∷ []);
         counted = simp length-append (omega arith);
         judging = judging-turn (p .judging) t;
-        counters = counters-turn b (p .records) (window after at end) original (p .counters) e;
+        rows-heard = marks-turn b (p .records) (p .rows-heard) (p .counters) (window after at end) original d;
+        counters = counters-turn b (p .records) (p .rows-heard) (p .counters) (window after at end) original e;
         waits =
             put-waits l h w z m
             ∙ ap₂ (afterLine room) (x ∙ p .waits)
-            (ap₂ (λ (i : ℕ) (y : Book). numberedLine i (recordLine y (window after at end) original)) n k)
+            (ap₂ (λ (i : ℕ) (y : Book). numberedLine i (recordLine y (window after at end) original)) n (book-now b (p .records) (p .rows-heard) (p .counters)))
             ∙ sym (waits-snoc room b (p .records) (record { frame = window after at end; original = original }));
       }
 
-  abbrev pub judged : Judged order b first received
-  judged = record { records = p .records; left = left; so-far = p .judging; counters = p .counters }
+  abbrev pub judged : Judged order b first marks received
+  judged = record { records = p .records; left = left; so-far = p .judging; rows-heard = p .rows-heard; counters = p .counters }
 
-pub record Looping (order : Order) (b : Book) (first : List ℕ) (room-size out-size : ℕ) (room received out : List ℕ) (size number from have : ℕ) : Type 0 where
+pub record Looping (order : Order) (b : Book) (first : List ℕ) (room-size out-size : ℕ) (room marks received out : List ℕ)
+    (size number from have : ℕ) : Type 0 where
   pub ordered : from ≤ have
   pub within : have ≤ length room
   pub long : length room ≡ room-size
+  pub marks-long : length marks ≡ length (b .marks)
   pub counters-long : length received ≡ length (b .received)
   pub out-long : length out ≡ out-size
   pub waiting : size + numberedMost ≤ out-size
   pub small : number ≤ 2 ^ 64 - 1
-  pub progress : Progress order b first received number (window room from have) out-size (take size out)
+  pub progress : Progress order b first marks received number (window room from have) out-size (take size out)
 
 -- ---- where it ended
 
@@ -215,11 +231,11 @@ last-by order left room number AtEnd h t = file-ends t
 last-by order left room number Cut h t = file-cut (t .read) (ap (λ (x : Records). x .whole) (t .cut))
 last-by order left room number Failed h t = file-cut (t .read) (t .whole-none)
 
-module _ {order : Order} {b : Book} {first : List ℕ} {room-size out-size : ℕ} {room received out : List ℕ} {size number from have : ℕ}
-    (l : Looping order b first room-size out-size room received out size number from have) where
+module _ {order : Order} {b : Book} {first : List ℕ} {room-size out-size : ℕ} {room marks received out : List ℕ} {size number from have : ℕ}
+    (l : Looping order b first room-size out-size room marks received out size number from have) where
   -- before the next record, with the last line behind those that wait
   pub ended-by : (after : List ℕ) (next : Next) {new : List ℕ} {r : ℕ} → NoRecord next → NextIs order (window room from have) after next
-      → PutAt out size (endLine next) new r → r ≤ length new → length new ≡ out-size → Waited order b first received new r
+      → PutAt out size (endLine next) new r → r ≤ length new → length new ≡ out-size → Waited order b first marks received new r
   ended-by after next {new} {r} h t p w z =
       let q = l .progress in
       let o = l .out-long in
@@ -236,7 +252,7 @@ module _ {order : Order} {b : Book} {first : List ℕ} {room-size out-size : ℕ
       }
 
   -- where no number is left
-  pub ended-numbers : 2 ^ 64 - 1 ≤ number → Waited order b first received out size
+  pub ended-numbers : 2 ^ 64 - 1 ≤ number → Waited order b first marks received out size
   ended-numbers h =
       let k = l .small in
       let q = l .progress in
@@ -253,9 +269,9 @@ module _ {order : Order} {b : Book} {first : List ℕ} {room-size out-size : ℕ
 
 -- ---- the whole recording: its header, and then what the loop judged
 
-pub recorded : {order : Order} {b : Book} {room received : List ℕ} {start held : ℕ} → CaptureThere room order start held
-    → Judged order b (window room start held) received → Recorded b received
-recorded {order} {b} {room} {received} {start} {held} c j =
+pub recorded : {order : Order} {b : Book} {room marks received : List ℕ} {start held : ℕ} → CaptureThere room order start held
+    → Judged order b (window room start held) marks received → Recorded b marks received
+recorded {order} {b} {room} {marks} {received} {start} {held} c j =
     let header = window room 0 fileHeaderSize in
     let first = window room start held in
     let read = j .so-far .read in
@@ -272,5 +288,6 @@ recorded {order} {b} {room} {received} {start} {held} c j =
           ap recordsOf (append-assoc header (first ++ read) rest ∙ ap (λ (s : List ℕ). header ++ s) (append-assoc first read rest))
           ∙ records-say .behind-header order header (first ++ (read ++ rest)) size (c .header-says)
           ∙ ap some (j .so-far .goes-on rest);
+      rows-heard = j .rows-heard;
       counters = j .counters;
     }

@@ -1,5 +1,5 @@
--- How far the judging of a recording is: which records have been judged, what is left of the bytes that were read, the received counters, and the lines
--- that wait to be written.
+-- How far the judging of a recording is: which records have been judged, what is left of the bytes that were read, the marks and the received counters,
+-- and the lines that wait to be written.
 use Prim.Native.Nat.{ℕ, _+_, _-_, _^_, _≤_}
 use mathlib.Core.Path.{_≡_}
 use mathlib.Core.Logic.{_⊎_}
@@ -23,11 +23,12 @@ pub record Judging (order : Order) (first : List ℕ) (records : List Record) (l
   pub read : List ℕ
   pub goes-on : (rest : List ℕ) → recordsFrom order (first ++ (read ++ rest)) ≡ inFront records (recordsFrom order (left ++ rest))
 
--- These records have been judged: the counters are those that they leave.
-pub record Judged (order : Order) (b : Book) (first received : List ℕ) : Type 0 where
+-- These records have been judged: the marks and the counters are those that they leave.
+pub record Judged (order : Order) (b : Book) (first marks received : List ℕ) : Type 0 where
   pub records : List Record
   pub left : List ℕ
   pub so-far : Judging order first records left
+  pub rows-heard : marks ≡ bookAtEnd b records .marks
   pub counters : received ≡ bookAtEnd b records .received
 
 -- ---- the lines
@@ -48,28 +49,29 @@ pub data Last (order : Order) (left : List ℕ) (number : ℕ) : List ℕ → Ty
   no-number : number ≡ 2 ^ 64 - 1 → Last order left number []
 
 -- the judging ended, and so many bytes of the room wait to be written: what the lines of those records leave waiting, and the last
-pub record Waited (order : Order) (b : Book) (first received out : List ℕ) (size : ℕ) : Type 0 where
-  pub judged : Judged order b first received
+pub record Waited (order : Order) (b : Book) (first marks received out : List ℕ) (size : ℕ) : Type 0 where
+  pub judged : Judged order b first marks received
   pub within : size ≤ length out
   pub end : List ℕ
   pub last : Last order (judged .left) (length (judged .records)) end
   pub text : take size out ≡ afterLines (length out) [] (numbered 1 (recordLines b (judged .records))) ++ end
 
-abbrev pub LinesWait : Order → Book → List ℕ → List ℕ → List ℕ → Waiting → Type 0
-LinesWait order b first received out (Size size) = Waited order b first received out size
-LinesWait order b first received out Broken = Unit {0}
+abbrev pub LinesWait : Order → Book → (first marks received out : List ℕ) → Waiting → Type 0
+LinesWait order b first marks received out (Size size) = Waited order b first marks received out size
+LinesWait order b first marks received out Broken = Unit {0}
 
 -- ---- the whole file
 
 -- The records that were judged, from the file's first byte on.
-pub record Recorded (b : Book) (received : List ℕ) : Type 0 where
+pub record Recorded (b : Book) (marks received : List ℕ) : Type 0 where
   pub front : List ℕ
   pub order : Order
   pub records : List Record
   pub left : List ℕ
   pub so-far : (rest : List ℕ) → recordsOf (front ++ rest) ≡ some (inFront records (recordsFrom order (left ++ rest)))
+  pub rows-heard : marks ≡ bookAtEnd b records .marks
   pub counters : received ≡ bookAtEnd b records .received
 
 -- nothing is judged of a recording that is unreadable
-abbrev pub RecordingJudged : Book → List ℕ → Type 0
-RecordingJudged b received = (received ≡ b .received) ⊎ Recorded b received
+abbrev pub RecordingJudged : Book → (marks received : List ℕ) → Type 0
+RecordingJudged b marks received = ((marks ≡ b .marks) × (received ≡ b .received)) ⊎ Recorded b marks received

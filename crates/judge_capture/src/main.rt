@@ -9,7 +9,7 @@ ghost use lib.ListN.{length, take};
 ghost use Rattle.key_book.specs.Book.{bookOf};
 ghost use Rattle.verdict_line.specs.Line.{numberedMost, numberedLine, PutAt};
 ghost use Rattle.capture.specs.Layout.{fileHeaderSize, frameMost};
-ghost use Rattle.capture_verdict.specs.Lines.{recordLine, receivedBy};
+ghost use Rattle.capture_verdict.specs.Lines.{recordLine, marksBy, receivedBy};
 ghost use Rattle.judge_capture.specs.Window.{window, endedBy, Gathers, AtFront, FrameGathers, NextIs, isCut, endLine};
 ghost use Rattle.judge_capture.specs.Window.{RoomMade, RoomFor, WaitsWithin, OpensAs};
 ghost use Rattle.judge_capture.specs.Judging.{Judged, LinesWait, RecordingJudged};
@@ -194,18 +194,23 @@ fn judge_frame(
     ids: &[u32],
     lengths: &[u8],
     store: &[u8],
+    marks: &mut [u8],
     received: &mut [u64],
     sent: &[u64],
     rows: usize,
 ) -> usize
     requires { ⌜ size + numberedMost ≤ length (now out) ⌝ }
     ensures line { λ r. ⌜
-        (let b = bookOf (now (ids .entry)) (now (lengths .entry)) (now (store .entry)) (now (received .entry)) (now (sent .entry)) rows in
+        (let b = bookOf (now (ids .entry)) (now (lengths .entry)) (now (store .entry)) (now (marks .entry)) (now (received .entry)) (now (sent .entry)) rows in
         PutAt (now (out .entry)) size (numberedLine number (recordLine b (now (frame .entry)) original)) (now (out .exit)) r)
         ⌝ }
     ensures within { λ r. ⌜ r ≤ length (now (out .exit)) ⌝ }
+    ensures marked { λ _. ⌜
+        (let b = bookOf (now (ids .entry)) (now (lengths .entry)) (now (store .entry)) (now (marks .entry)) (now (received .entry)) (now (sent .entry)) rows in
+        now (marks .exit) ≡ marksBy b (now (frame .entry)) original)
+        ⌝ }
     ensures stored { λ _. ⌜
-        (let b = bookOf (now (ids .entry)) (now (lengths .entry)) (now (store .entry)) (now (received .entry)) (now (sent .entry)) rows in
+        (let b = bookOf (now (ids .entry)) (now (lengths .entry)) (now (store .entry)) (now (marks .entry)) (now (received .entry)) (now (sent .entry)) rows in
         now (received .exit) ≡ receivedBy b (now (frame .entry)) original)
         ⌝ }
 {
@@ -215,6 +220,7 @@ fn judge_frame(
         ids,
         lengths,
         store,
+        marks,
         received,
         sent,
         rows,
@@ -274,6 +280,7 @@ fn judge_records(
     ids: &[u32],
     lengths: &[u8],
     store: &[u8],
+    marks: &mut [u8],
     received: &mut [u64],
     sent: &[u64],
     rows: usize,
@@ -283,13 +290,13 @@ fn judge_records(
     requires { ⌜ frameMost ≤ length (now room) ⌝ }
     requires { ⌜ numberedMost ≤ length (now out) ⌝ }
     ensures judged { λ _. ⌜
-        (let b = bookOf (now (ids .entry)) (now (lengths .entry)) (now (store .entry)) (now (received .entry)) (now (sent .entry)) rows in
-        Judged order b (window (now (room .entry)) start held) (now (received .exit)))
+        (let b = bookOf (now (ids .entry)) (now (lengths .entry)) (now (store .entry)) (now (marks .entry)) (now (received .entry)) (now (sent .entry)) rows in
+        Judged order b (window (now (room .entry)) start held) (now (marks .exit)) (now (received .exit)))
         ⌝ }
     ensures within { λ r. ⌜ WaitsWithin (length (now (out .exit))) r ⌝ }
     ensures lines { λ r. ⌜
-        (let b = bookOf (now (ids .entry)) (now (lengths .entry)) (now (store .entry)) (now (received .entry)) (now (sent .entry)) rows in
-        LinesWait order b (window (now (room .entry)) start held) (now (received .exit)) (now (out .exit)) r)
+        (let b = bookOf (now (ids .entry)) (now (lengths .entry)) (now (store .entry)) (now (marks .entry)) (now (received .entry)) (now (sent .entry)) rows in
+        LinesWait order b (window (now (room .entry)) start held) (now (marks .exit)) (now (received .exit)) (now (out .exit)) r)
         ⌝ }
 {
     let mut size: usize = 0;
@@ -311,6 +318,7 @@ fn judge_records(
             ids,
             lengths,
             store,
+            marks,
             received,
             sent,
             rows,
@@ -364,13 +372,14 @@ fn judge_recording(
     ids: &[u32],
     lengths: &[u8],
     store: &[u8],
+    marks: &mut [u8],
     received: &mut [u64],
     sent: &[u64],
     rows: usize,
 )
     ensures { λ _. ⌜
-        (let b = bookOf (now (ids .entry)) (now (lengths .entry)) (now (store .entry)) (now (received .entry)) (now (sent .entry)) rows in
-        RecordingJudged b (now (received .exit)))
+        (let b = bookOf (now (ids .entry)) (now (lengths .entry)) (now (store .entry)) (now (marks .entry)) (now (received .entry)) (now (sent .entry)) rows in
+        RecordingJudged b (now (marks .exit)) (now (received .exit)))
         ⌝ }
 {
     let fd = os::open_read(b"church.pcap");
@@ -395,6 +404,7 @@ fn judge_recording(
         ids,
         lengths,
         store,
+        marks,
         received,
         sent,
         rows,
@@ -406,17 +416,27 @@ fn main() {
     let mut ids = [0u32; ROWS_MOST];
     let mut lengths = [0u8; ROWS_MOST];
     let mut store = [0u8; ROWS_MOST * SLOT_SIZE];
+    let mut marks = [0u8; ROWS_MOST];
     let mut received = [0u64; ROWS_MOST];
     let mut sent = [0u64; ROWS_MOST];
     let loaded = program_files::load_book(
         &mut ids,
         &mut lengths,
         &mut store,
+        &mut marks,
         &mut received,
         &mut sent,
     );
     match loaded {
         Loaded::Stopped(line) => write_unreadable(),
-        Loaded::Rows(rows) => judge_recording(&ids, &lengths, &store, &mut received, &sent, rows),
+        Loaded::Rows(rows) => judge_recording(
+            &ids,
+            &lengths,
+            &store,
+            &mut marks,
+            &mut received,
+            &sent,
+            rows,
+        ),
     }
 }

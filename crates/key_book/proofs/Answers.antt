@@ -33,7 +33,7 @@ search-on {ids} {id} {k} s h n = record { within = omega arith; others = below-m
 
 module _ {ids : List ℕ} {id k : ℕ} (s : Searched ids id k) (rows : ℕ) where
   abbrev lent : Book
-  lent = bookOf ids [] [] [] [] rows
+  lent = bookOf ids [] [] [] [] [] rows
 
   -- no id is left, or none of those in use
   pub search-none : ((j : ℕ) → j < rows → j < length ids → j < k) → Nothing ≡ foundOf (rowIn ids rows id)

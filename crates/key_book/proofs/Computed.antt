@@ -6,14 +6,14 @@ use lib.Dec.{leb, eqb}
 use lib.ListN.{getD, replicate, length-replicate}
 use mathlib.Core.Bool.{_&&_}
 use Rattle.key_book.specs.Limits.{slotSize, roomMost}
-use Rattle.key_book.specs.Book.{sound, sized, ascending, keySizes, allBelow}
-use Rattle.key_book.specs.Examples.{Example10, roomFor, BookLimits}
+use Rattle.key_book.specs.Book.{sound, sized, ascending, keySizes, markFits, marksFit, allBelow}
+use Rattle.key_book.specs.Examples.{Example10, roomFor, BookLimits, MarksPinned}
 
 pub example-10 : Example10
-unfolding sound sized ascending keySizes allBelow
+unfolding sound sized ascending keySizes markFits marksFit allBelow
 example-10 = record { largest-key = refl; key-too-long = refl; no-key = refl }
 
-room-sized : (n : ℕ) → sized (roomFor n) ≡ (leb n roomMost && eqb n n && eqb (slotSize * n) (slotSize * n) && eqb n n && eqb n n)
+room-sized : (n : ℕ) → sized (roomFor n) ≡ (leb n roomMost && eqb n n && eqb (slotSize * n) (slotSize * n) && eqb n n && eqb n n && eqb n n)
 unfolding sized
 room-sized n = rw (length-replicate {A = ℕ} n 0, length-replicate {A = ℕ} (slotSize * n) 0)
 
@@ -24,7 +24,7 @@ repeats-below (suc count) x bound zero h = h
 repeats-below (suc count) x bound (suc k) h = repeats-below count x bound k h
 
 pub book-limits : BookLimits
-unfolding sound sized ascending keySizes allBelow
+unfolding sound sized ascending keySizes markFits marksFit allBelow
 book-limits = record {
   most-room = room-sized 1024;
   too-much-room = room-sized 1025;
@@ -37,4 +37,16 @@ book-limits = record {
     received-fits = λ k. repeats-below 1 18446744073709551615 _ k (omega arith);
     sent-fits = λ k. repeats-below 1 18446744073709551615 _ k (omega arith);
   };
+}
+
+pub marks-pinned : MarksPinned
+unfolding sound sized ascending keySizes markFits marksFit allBelow
+marks-pinned = record {
+  not-heard = (refl, refl);
+  is-heard = (refl, refl);
+  heard-of-0 = refl;
+  received-before = refl;
+  other-mark = refl;
+  not-in-use = λ mark received. refl;
+  one-mark-less = refl;
 }

@@ -1,8 +1,8 @@
 -- The closed statements of specs/Laws.antt, proved: the tests by their parts, the row of an id by induction on the ids, the key of a row where it fits
 -- the store (proofs/Keys.antt).
 use mathlib.Core.Path.{_≡_, refl, sym, ap, _∙_}
-use mathlib.Core.Logic.{_↔_, _≢_}
-use mathlib.Core.Bool.{Bool, true, false, cond, and-eq-true-iff}
+use mathlib.Core.Logic.{_↔_, _≢_, inl, inr, ⊎-elim}
+use mathlib.Core.Bool.{Bool, true, false, cond, _&&_, and-eq-true-iff}
 use mathlib.Core.List.{List, [], _∷_}
 use mathlib.Core.Option.{Option, none, some}
 use Prim.Native.Nat.{ℕ, zero, suc, _+_, _-_, _*_, _≤_, _<_}
@@ -11,9 +11,11 @@ use borrow.Author.Tests.{eq-eqb, le-leb, leb-true, eqb-true, eqb-false}
 use lib.Dec.{leb, eqb}
 use lib.ListN.{length, getD, take, drop, length-take, length-drop}
 use lib.Seq.{getD-take, getD-drop, ext-getD, length-take-le}
-use Rattle.key_book.specs.Limits.{slotSize}
-use Rattle.key_book.specs.Book.{Book, allBelow, sized, ascending, keySizes, sound, placeFrom, rowIn, rowOf, keyOf}
-use Rattle.key_book.specs.Laws.{SizedSays, SoundSays, FirstRow, NoRow, RowSays, Within, RowsWithin, KeySays, SoundDepends, RowDepends, KeyDepends}
+use Rattle.key_book.specs.Limits.{slotSize, notHeard, heard}
+use Rattle.key_book.specs.Book.{Book, MarkFits, allBelow, sized, ascending, keySizes, markFits, marksFit, sound}
+use Rattle.key_book.specs.Book.{placeFrom, rowIn, rowOf, keyOf}
+use Rattle.key_book.specs.Laws.{SizedSays, MarkFitsSays, SoundSays, FirstRow, NoRow, RowSays, Within, RowsWithin, KeySays}
+use Rattle.key_book.specs.Laws.{SoundDepends, RowDepends, KeyDepends}
 use Rattle.key_book.proofs.Below.{all-says, all-holds, all-alike, ascends}
 use Rattle.key_book.proofs.Keys.{Fits, key-part, key-start}
 
@@ -30,25 +32,50 @@ pub sized-says : SizedSays
 unfolding sized
 sized-says b = (
   λ e. let t = simp (and-eq-true-iff, leb-says, eqb-says) at e in
-      record { room = omega arith; lengths-agree = omega arith; store-agrees = omega arith; received-agree = omega arith; sent-agree = omega arith },
-  λ s. simp (and-eq-true-iff, leb-says, eqb-says) ((((s .room, s .lengths-agree), s .store-agrees), s .received-agree), s .sent-agree),
+      record {
+        room = omega arith;
+        lengths-agree = omega arith;
+        store-agrees = omega arith;
+        marks-agree = omega arith;
+        received-agree = omega arith;
+        sent-agree = omega arith;
+      },
+  λ s. simp (and-eq-true-iff, leb-says, eqb-says) (((((s .room, s .lengths-agree), s .store-agrees), s .marks-agree), s .received-agree), s .sent-agree),
 )
 
+pub mark-fits-says : MarkFitsSays
+unfolding markFits
+mark-fits-says mark received = (says (eqb mark heard) refl, on)
+  where
+    says : (t : Bool) → eqb mark heard ≡ t → cond t true (eqb mark notHeard && eqb received 0) ≡ true → MarkFits mark received
+    says true e f = let one = eqb-true mark heard e in record { known = inr one; fresh = λ z. absurd (omega arith) }
+    says false e f = let t = simp (and-eq-true-iff, eqb-says) at f in record { known = inl (t .0); fresh = λ z. t .1 }
+
+    on : MarkFits mark received → cond (eqb mark heard) true (eqb mark notHeard && eqb received 0) ≡ true
+    on m = ⊎-elim
+        (λ (z : mark ≡ notHeard). let r = m .fresh z in rw (z, r))
+        (λ (o : mark ≡ heard). rw o)
+        (m .known)
+
 pub sound-says : SoundSays
-unfolding sound ascending keySizes
+unfolding sound ascending keySizes marksFit
 sound-says b = (
-  λ e. let t = simp (and-eq-true-iff, leb-says, all-below, sized-says) at e in
+  λ e. let t = simp (and-eq-true-iff, leb-says, all-below, sized-says, mark-fits-says) at e in
       record {
-        sizes = t .0 .0 .0 .0;
-        rows-fit = t .0 .0 .0 .1;
-        rows-few = t .0 .0 .1;
-        ids-ascend = ascends (λ (k : ℕ). getD (b .ids) k 0) (b .rows) (λ k h. t .0 .1 k (omega arith));
-        keys-from = λ k h. t .1 k h .0;
-        keys-to = λ k h. t .1 k h .1;
+        sizes = t .0 .0 .0 .0 .0;
+        rows-fit = t .0 .0 .0 .0 .1;
+        rows-few = t .0 .0 .0 .1;
+        ids-ascend = ascends (λ (k : ℕ). getD (b .ids) k 0) (b .rows) (λ k h. t .0 .0 .1 k (omega arith));
+        keys-from = λ k h. t .0 .1 k h .0;
+        keys-to = λ k h. t .0 .1 k h .1;
+        marks-fit = t .1;
       },
-  λ s. simp (and-eq-true-iff, leb-says, all-below, sized-says) (
-    (((s .sizes, s .rows-fit), s .rows-few), λ k h. s .ids-ascend k (k + 1) (omega arith) (omega arith)),
-    λ k h. (s .keys-from k h, s .keys-to k h),
+  λ s. simp (and-eq-true-iff, leb-says, all-below, sized-says, mark-fits-says) (
+    (
+      (((s .sizes, s .rows-fit), s .rows-few), λ k h. s .ids-ascend k (k + 1) (omega arith) (omega arith)),
+      λ k h. (s .keys-from k h, s .keys-to k h),
+    ),
+    s .marks-fit,
   ),
 )
 
@@ -125,7 +152,14 @@ row-says = record {
 pub rows-within : RowsWithin
 rows-within b s k h =
     let z = s .sizes in
-    record { in-ids = omega arith; in-lengths = omega arith; in-store = omega arith; in-received = omega arith; in-sent = omega arith }
+    record {
+      in-ids = omega arith;
+      in-lengths = omega arith;
+      in-store = omega arith;
+      in-marks = omega arith;
+      in-received = omega arith;
+      in-sent = omega arith;
+    }
 
 -- the key of a row within the book, as a part of the store
 module _ (b : Book) (k : ℕ) (w : Within b k) (t : getD (b .lengths) k 0 ≤ slotSize) where
@@ -154,13 +188,25 @@ key-says b s k h =
       bytes = λ i m. ap (λ (x : List ℕ). getD x i 0) (key-is b k w t) ∙ getD-take (getD (b .lengths) k 0) _ i 0 (omega arith) ∙ getD-drop _ (b .store) i 0;
     }
 
+-- the received counter of a heard row is not read
+mark-fits-alike : (mark mark′ received received′ : ℕ) → mark ≡ mark′ → (mark ≡ notHeard → received ≡ received′)
+    → markFits mark received ≡ markFits mark′ received′
+unfolding markFits
+mark-fits-alike mark mark′ received received′ e f = rw (← e) (on (eqb mark notHeard) refl)
+  where
+    on : (t : Bool) → eqb mark notHeard ≡ t → cond (eqb mark heard) true (t && eqb received 0) ≡ cond (eqb mark heard) true (t && eqb received′ 0)
+    on true z = rw (f (eqb-true mark notHeard z))
+    on false z = refl
+
 pub sound-depends : SoundDepends
-unfolding sound sized ascending keySizes
+unfolding sound sized ascending keySizes marksFit
 sound-depends b c a =
     let ids : ascending (b .ids) (b .rows) ≡ ascending (c .ids) (b .rows) =
     all-alike _ _ (b .rows - 1) (λ k h. rw (a .same-ids k (omega arith), a .same-ids (k + 1) (omega arith))) in
     let keys : keySizes (b .lengths) (b .rows) ≡ keySizes (c .lengths) (b .rows) = all-alike _ _ (b .rows) (λ k h. rw (a .same-lengths k h)) in
-    rw (ids, keys, a .ids-size, a .lengths-size, a .store-size, a .received-size, a .sent-size, a .same-rows)
+    let marks : marksFit (b .marks) (b .received) (b .rows) ≡ marksFit (c .marks) (c .received) (b .rows) =
+    all-alike _ _ (b .rows) (λ k h. mark-fits-alike _ _ _ _ (a .same-marks k h) (a .same-fresh k h)) in
+    rw (ids, keys, marks, a .ids-size, a .lengths-size, a .store-size, a .marks-size, a .received-size, a .sent-size, a .same-rows)
 
 pub row-depends : RowDepends
 unfolding rowIn

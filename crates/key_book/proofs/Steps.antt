@@ -1,14 +1,15 @@
--- Soundness step by step: the ends of `sizes_agree` and `is_sound`, and what the loops of `ids_ascend` and `keys_sized` pass.
+-- Soundness step by step: the ends of `sizes_agree`, `mark_fits` and `is_sound`, and what the loops of `ids_ascend`, `keys_sized` and `marks_fit` pass.
 use mathlib.Core.Path.{_≡_, sym, _∙_}
+use mathlib.Core.Logic.{_≢_}
 use mathlib.Core.Bool.{Bool, true, false, not}
 use mathlib.Core.List.{List}
 use Prim.Native.Nat.{ℕ, _+_, _-_, _*_, _≤_, _<_}
 use native.Mathlib.Omega.{arith}
-use borrow.Author.Tests.{eq-eqb, le-leb, lt-leb, lt-ltb, le-ltb, not-true, not-false}
+use borrow.Author.Tests.{eq-eqb, ne-eqb, le-leb, lt-leb, lt-ltb, le-ltb, not-true, not-false}
 use lib.Dec.{ltb, eqb}
 use lib.ListN.{length, getD}
-use Rattle.key_book.specs.Limits.{rowsMost, slotSize, roomMost}
-use Rattle.key_book.specs.Book.{Book, bookOf, Sized, Sound, sized, ascending, keySize, keySizes, sound}
+use Rattle.key_book.specs.Limits.{rowsMost, slotSize, roomMost, notHeard, heard}
+use Rattle.key_book.specs.Book.{Book, bookOf, Sized, Sound, sized, ascending, keySize, keySizes, markFits, marksFit, sound}
 use Rattle.key_book.proofs.Says.{sized-says, sound-says}
 use Rattle.key_book.proofs.Below.{is-false, both, Passed, pass-turn, pass-fails, pass-end}
 
@@ -17,17 +18,17 @@ not-sized b h = is-false (sized b) (λ e. h (sized-says b .0 e))
 
 -- all but the last of the sizes agree
 pub sizes-last : (b : Book) → length (b .ids) ≤ roomMost → length (b .lengths) ≡ length (b .ids) → length (b .store) ≡ slotSize * length (b .ids)
-    → length (b .received) ≡ length (b .ids) → eqb (length (b .sent)) (length (b .ids)) ≡ sized b
+    → length (b .marks) ≡ length (b .ids) → length (b .received) ≡ length (b .ids) → eqb (length (b .sent)) (length (b .ids)) ≡ sized b
 unfolding sized
-sizes-last b h₀ h₁ h₂ h₃ = rw (le-leb _ _ h₀, eq-eqb _ _ h₁, eq-eqb _ _ h₂, eq-eqb _ _ h₃)
+sizes-last b h₀ h₁ h₂ h₃ h₄ = rw (le-leb _ _ h₀, eq-eqb _ _ h₁, eq-eqb _ _ h₂, eq-eqb _ _ h₃, eq-eqb _ _ h₄)
 
 pub not-sound : (b : Book) → (Sound b → ⊥) → false ≡ sound b
 not-sound b h = is-false (sound b) (λ e. h (sound-says b .0 e))
 
 -- what `sizes_agree` answered, for any row count
-module _ (ids lengths store received sent : List ℕ) (rows : ℕ) (t : Bool) (e : t ≡ sized (bookOf ids lengths store received sent 0)) where
+module _ (ids lengths store marks received sent : List ℕ) (rows : ℕ) (t : Bool) (e : t ≡ sized (bookOf ids lengths store marks received sent 0)) where
   abbrev lent : Book
-  lent = bookOf ids lengths store received sent rows
+  lent = bookOf ids lengths store marks received sent rows
 
   pub sound-sizes : not t ≡ true → false ≡ sound lent
   unfolding sound sized
@@ -37,15 +38,20 @@ module _ (ids lengths store received sent : List ℕ) (rows : ℕ) (t : Bool) (e
   unfolding sized
   sizes-kept g = sized-says lent .0 (sym e ∙ not-false t g)
 
-  -- with the sizes and the row count, the ids and the key lengths decide
+  -- with the sizes and the row count, the ids, the key lengths and the marks decide
   module _ (g : not t ≡ false) (h : rows ≤ length ids) (k : rows ≤ rowsMost) (a : Bool) (ea : a ≡ ascending ids rows) where
     pub sound-order : not a ≡ true → false ≡ sound lent
     unfolding sound sized
     sound-order f = rw (sym e ∙ not-false t g, le-leb _ _ h, le-leb _ _ k, sym ea ∙ not-true a f)
 
-    pub sound-keys : not a ≡ false → (r : Bool) → r ≡ keySizes lengths rows → r ≡ sound lent
-    unfolding sound sized
-    sound-keys f r er = rw (sym e ∙ not-false t g, le-leb _ _ h, le-leb _ _ k, sym ea ∙ not-false a f) er
+    module _ (f : not a ≡ false) (r : Bool) (er : r ≡ keySizes lengths rows) where
+      pub sound-keys : not r ≡ true → false ≡ sound lent
+      unfolding sound sized
+      sound-keys n = rw (sym e ∙ not-false t g, le-leb _ _ h, le-leb _ _ k, sym ea ∙ not-false a f, sym er ∙ not-true r n)
+
+      pub sound-marks : not r ≡ false → (u : Bool) → u ≡ marksFit marks received rows → u ≡ sound lent
+      unfolding sound sized
+      sound-marks n u eu = rw (sym e ∙ not-false t g, le-leb _ _ h, le-leb _ _ k, sym ea ∙ not-false a f, sym er ∙ not-false r n) eu
 
 -- an id is below the next
 abbrev pub rises : List ℕ → ℕ → Bool
@@ -82,3 +88,35 @@ module _ (lengths : List ℕ) (rows : ℕ) {k : ℕ} (s : Passed (keyed lengths)
   pub keyed-end : rows ≤ k → true ≡ keySizes lengths rows
   unfolding keySizes
   keyed-end h = pass-end (keyed lengths) rows k s h
+
+-- a mark fits its counter
+abbrev pub fitting : List ℕ → List ℕ → ℕ → Bool
+fitting marks received k = markFits (getD marks k 0) (getD received k 0)
+
+module _ (marks received : List ℕ) (rows : ℕ) {k : ℕ} (s : Passed (fitting marks received) rows k) (h : k < rows) (t : Bool)
+    (e : t ≡ fitting marks received k)
+  where
+    pub fitting-fails : not t ≡ true → false ≡ marksFit marks received rows
+    unfolding marksFit
+    fitting-fails n = pass-fails (fitting marks received) rows k h (sym e ∙ not-true t n)
+
+    pub fitting-turn : not t ≡ false → Passed (fitting marks received) rows (k + 1)
+    fitting-turn n = pass-turn (fitting marks received) rows k s h (sym e ∙ not-false t n)
+
+pub fitting-end : (marks received : List ℕ) (rows : ℕ) {k : ℕ} → Passed (fitting marks received) rows k → rows ≤ k → true ≡ marksFit marks received rows
+unfolding marksFit
+fitting-end marks received rows {k} s h = pass-end (fitting marks received) rows k s h
+
+-- the ends of `mark_fits`
+module _ (mark received : ℕ) where
+  pub fits-heard : mark ≡ heard → true ≡ markFits mark received
+  unfolding markFits
+  fits-heard e = rw (eq-eqb mark heard e)
+
+  pub fits-other : mark ≢ heard → mark ≢ notHeard → false ≡ markFits mark received
+  unfolding markFits
+  fits-other n m = rw (ne-eqb mark heard n, ne-eqb mark notHeard m)
+
+  pub fits-fresh : mark ≢ heard → mark ≡ notHeard → eqb received 0 ≡ markFits mark received
+  unfolding markFits
+  fits-fresh n e = rw (ne-eqb mark heard n, eq-eqb mark notHeard e)

@@ -1,4 +1,4 @@
--- The limits of a key book, from both sides and as numbers: docs/RULES.md, 'The key book' and 'Bench examples', 10.
+-- The limits of a key book and its marks, from both sides and as numbers: docs/RULES.md, 'The key book' and 'Bench examples', 10.
 use mathlib.Core.Path.{_≡_}
 use mathlib.Core.Bool.{true, false}
 use mathlib.Core.List.{[], _∷_}
@@ -6,11 +6,11 @@ use Prim.Native.Nat.{ℕ, _*_}
 use lib.ListN.{replicate}
 use Rattle.octets.specs.Bytes.{zeros, upFrom}
 use Rattle.key_book.specs.Limits.{slotSize}
-use Rattle.key_book.specs.Book.{Book, bookOf, Lent, sized, sound}
+use Rattle.key_book.specs.Book.{Book, bookOf, Lent, sized, sound, heardAt}
 
 -- one row whose key has so many bytes, with room for it
 abbrev pub oneRow : ℕ → Book
-oneRow size = bookOf (7 ∷ []) (size ∷ []) (replicate slotSize 1) (10 ∷ []) (3 ∷ []) 1
+oneRow size = bookOf (7 ∷ []) (size ∷ []) (replicate slotSize 1) (1 ∷ []) (10 ∷ []) (3 ∷ []) 1
 
 -- bench example 10: a key of 64 bytes is sound, one of 65 is not, and none is not
 pub record Example10 : Type 0 where
@@ -20,16 +20,16 @@ pub record Example10 : Type 0 where
 
 -- room for so many rows, each with a slot of 64 bytes, none in use
 abbrev pub roomFor : ℕ → Book
-roomFor n = bookOf (zeros n) (zeros n) (zeros (64 * n)) (zeros n) (zeros n) 0
+roomFor n = bookOf (zeros n) (zeros n) (zeros (64 * n)) (zeros n) (zeros n) (zeros n) 0
 
 -- so many rows, all in use, each with a key of one byte
 abbrev pub allUsed : ℕ → Book
-allUsed n = bookOf (upFrom 0 n) (replicate n 1) (zeros (64 * n)) (zeros n) (zeros n) n
+allUsed n = bookOf (upFrom 0 n) (replicate n 1) (zeros (64 * n)) (zeros n) (zeros n) (zeros n) n
 
 -- one row whose id, key bytes and counters are the largest of 32, 8 and 64 bits
 abbrev pub largestRow : Book
 largestRow =
-    bookOf (replicate 1 4294967295) (64 ∷ []) (replicate 64 255) (replicate 1 18446744073709551615) (replicate 1 18446744073709551615) 1
+    bookOf (replicate 1 4294967295) (64 ∷ []) (replicate 64 255) (1 ∷ []) (replicate 1 18446744073709551615) (replicate 1 18446744073709551615) 1
 
 -- room for 1,024 rows and no more; 64 rows in use and no more; and `Lent` asks no more than the types give
 pub record BookLimits : Type 0 where
@@ -39,3 +39,17 @@ pub record BookLimits : Type 0 where
   pub too-many-rows : sound (allUsed 65) ≡ false
   pub largest-sound : sound largestRow ≡ true
   pub largest-lent : Lent largestRow
+
+-- two rows, of which so many are in use; the second has this mark and this received counter
+abbrev pub secondRow : (mark received rows : ℕ) → Book
+secondRow mark received rows = bookOf (7 ∷ 8 ∷ []) (4 ∷ 4 ∷ []) (replicate 128 1) (1 ∷ mark ∷ []) (10 ∷ received ∷ []) (3 ∷ 0 ∷ []) rows
+
+-- 0 is not heard and 1 is heard, no other mark is sound, and a row not heard has received 0; a row that is not in use has any
+pub record MarksPinned : Type 0 where
+  pub not-heard : (sound (secondRow 0 0 2) ≡ true) × (heardAt (secondRow 0 0 2) 1 ≡ false)
+  pub is-heard : (sound (secondRow 1 5 2) ≡ true) × (heardAt (secondRow 1 5 2) 1 ≡ true)
+  pub heard-of-0 : sound (secondRow 1 0 2) ≡ true
+  pub received-before : sound (secondRow 0 1 2) ≡ false
+  pub other-mark : sound (secondRow 2 0 2) ≡ false
+  pub not-in-use : (mark received : ℕ) → sound (secondRow mark received 1) ≡ true
+  pub one-mark-less : sound (bookOf (7 ∷ []) (4 ∷ []) (replicate 64 1) [] (10 ∷ []) (3 ∷ []) 1) ≡ false

@@ -5,12 +5,15 @@ use mathlib.Core.Bool.{true}
 use mathlib.Core.Option.{none, some}
 use Prim.Native.Nat.{ℕ, _+_, _*_, _≤_, _<_}
 use lib.ListN.{length, getD, take}
-use Rattle.key_book.specs.Limits.{slotSize}
-use Rattle.key_book.specs.Book.{Book, Sized, Sound, sized, sound, rowOf, keyOf, keyStart}
+use Rattle.key_book.specs.Limits.{slotSize, notHeard}
+use Rattle.key_book.specs.Book.{Book, Sized, Sound, MarkFits, sized, markFits, sound, rowOf, keyOf, keyStart}
 
 -- the computed tests are the rules' sentences
 abbrev pub SizedSays : Type 0
 SizedSays = (b : Book) → (sized b ≡ true) ↔ Sized b
+
+abbrev pub MarkFitsSays : Type 0
+MarkFitsSays = (mark received : ℕ) → (markFits mark received ≡ true) ↔ MarkFits mark received
 
 abbrev pub SoundSays : Type 0
 SoundSays = (b : Book) → (sound b ≡ true) ↔ Sound b
@@ -36,6 +39,7 @@ pub record Within (b : Book) (k : ℕ) : Type 0 where
   pub in-ids : k < length (b .ids)
   pub in-lengths : k < length (b .lengths)
   pub in-store : slotSize * k + slotSize ≤ length (b .store)
+  pub in-marks : k < length (b .marks)
   pub in-received : k < length (b .received)
   pub in-sent : k < length (b .sent)
 
@@ -53,16 +57,20 @@ pub record KeyOfRow (b : Book) (k : ℕ) : Type 0 where
 abbrev pub KeySays : Type 0
 KeySays = (b : Book) → Sound b → (k : ℕ) → k < b .rows → KeyOfRow b k
 
--- two books that agree in all that soundness reads: the sizes, the row count, the ids and key lengths of the rows in use
+-- two books that agree in all that soundness reads: the sizes, the row count, and of the rows in use the ids, the key lengths, the marks, and the
+-- received counters where they are not heard
 pub record Alike (b c : Book) : Type 0 where
   pub ids-size : length (b .ids) ≡ length (c .ids)
   pub lengths-size : length (b .lengths) ≡ length (c .lengths)
   pub store-size : length (b .store) ≡ length (c .store)
+  pub marks-size : length (b .marks) ≡ length (c .marks)
   pub received-size : length (b .received) ≡ length (c .received)
   pub sent-size : length (b .sent) ≡ length (c .sent)
   pub same-rows : b .rows ≡ c .rows
   pub same-ids : (k : ℕ) → k < b .rows → getD (b .ids) k 0 ≡ getD (c .ids) k 0
   pub same-lengths : (k : ℕ) → k < b .rows → getD (b .lengths) k 0 ≡ getD (c .lengths) k 0
+  pub same-marks : (k : ℕ) → k < b .rows → getD (b .marks) k 0 ≡ getD (c .marks) k 0
+  pub same-fresh : (k : ℕ) → k < b .rows → getD (b .marks) k 0 ≡ notHeard → getD (b .received) k 0 ≡ getD (c .received) k 0
 
 -- soundness depends on nothing else
 abbrev pub SoundDepends : Type 0

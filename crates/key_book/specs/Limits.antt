@@ -1,4 +1,4 @@
--- The limits of a key book, each named once: docs/RULES.md, 'The key book'.
+-- The limits of a key book and its two marks, each named once: docs/RULES.md, 'The key book'.
 use Prim.Native.Nat.{ℕ}
 
 -- the most rows in use
@@ -12,3 +12,11 @@ slotSize = 64
 -- the most rows that there may be room for
 abbrev pub roomMost : ℕ
 roomMost = 1024
+
+-- the mark of a row that is not heard: nothing was accepted under it yet, and any counter is new
+abbrev pub notHeard : ℕ
+notHeard = 0
+
+-- the mark of one that is heard: a counter above the received one is new
+abbrev pub heard : ℕ
+heard = 1

@@ -1,12 +1,13 @@
 // The key book as the host lends it: whether it is sound, the row of a secret id, the key of a row (docs/RULES.md, 'The key book').
-// Not here: the counters' meaning (delayed_auth) and the card on which a book is stored (book_card).
+// Not here: what a mark and the counters decide (delayed_auth) and the card on which a book is stored (book_card).
 //
-// A book has room for n rows: ids, key lengths and two rows of counters have n elements, and the key store a slot of SLOT_SIZE bytes per row.
+// A book has room for n rows: ids, key lengths, marks and two rows of counters have n elements, and the key store a slot of SLOT_SIZE bytes per row.
 // Only the first `rows` of them are in use. Slot bytes past a key, and rows from `rows` on, affect no answer.
 ghost use mathlib.Core.Path.{_≡_};
 ghost use Prim.Native.Nat.{_≤_};
 ghost use lib.ListN.{length};
-ghost use Rattle.key_book.specs.Book.{bookOf, sized, ascending, keySizes, sound, rowIn, foundOf, keyIn, keyStart, movedOn};
+ghost use Rattle.key_book.specs.Book.{bookOf, sized, ascending, keySizes, markFits, marksFit, sound, rowIn, foundOf};
+ghost use Rattle.key_book.specs.Book.{keyIn, keyStart, movedOn};
 
 // The most rows in use.
 pub const ROWS_MOST: usize = 64;
@@ -14,6 +15,11 @@ pub const ROWS_MOST: usize = 64;
 pub const SLOT_SIZE: usize = 64;
 // The most rows that there may be room for.
 pub const ROOM_MOST: usize = 1024;
+
+// The mark of a row that is not heard: nothing was accepted under it yet, its received counter is 0, and any counter is new.
+pub const NOT_HEARD: u8 = 0;
+// The mark of one that is heard: a counter above the received one is new.
+pub const HEARD: u8 = 1;
 
 // Where a secret id stands.
 pub enum Found {
@@ -28,11 +34,12 @@ pub fn sizes_agree(
     ids: &[u32],
     lengths: &[u8],
     store: &[u8],
+    marks: &[u8],
     received: &[u64],
     sent: &[u64],
 ) -> bool
     ensures { λ r. ⌜
-        (let b = bookOf (now (ids .entry)) (now (lengths .entry)) (now (store .entry)) (now (received .entry)) (now (sent .entry)) 0 in
+        (let b = bookOf (now (ids .entry)) (now (lengths .entry)) (now (store .entry)) (now (marks .entry)) (now (received .entry)) (now (sent .entry)) 0 in
         r ≡ sized b)
         ⌝ }
 {
@@ -44,6 +51,9 @@ pub fn sizes_agree(
         return false;
     }
     if store.len() != SLOT_SIZE * room {
+        return false;
+    }
+    if marks.len() != room {
         return false;
     }
     if received.len() != room {
@@ -86,21 +96,52 @@ fn keys_sized(lengths: &[u8], rows: usize) -> bool
     true
 }
 
-// Whether the lent book is sound. It reads the sizes, the row count, and the ids and key lengths of the rows in use.
+// Whether a row's mark is one of the two, and its received counter 0 where it is not heard.
+pub fn mark_fits(mark: u8, received: u64) -> bool
+    ensures { λ r. ⌜ r ≡ markFits mark received ⌝ }
+{
+    if mark == HEARD {
+        return true;
+    }
+    if mark != NOT_HEARD {
+        return false;
+    }
+    received == 0
+}
+
+// Whether the mark of each of the first rows fits its received counter.
+fn marks_fit(marks: &[u8], received: &[u64], rows: usize) -> bool
+    requires { ⌜ rows ≤ length (now marks) ⌝ }
+    requires { ⌜ rows ≤ length (now received) ⌝ }
+    ensures { λ r. ⌜ r ≡ marksFit (now (marks .entry)) (now (received .entry)) rows ⌝ }
+{
+    let mut k: usize = 0;
+    while k < rows {
+        if !mark_fits(marks[k], received[k]) {
+            return false;
+        }
+        k += 1;
+    }
+    true
+}
+
+// Whether the lent book is sound. It reads the sizes, the row count, and of the rows in use the ids, the key lengths, the marks, and the received
+// counters of those that are not heard.
 pub fn is_sound(
     ids: &[u32],
     lengths: &[u8],
     store: &[u8],
+    marks: &[u8],
     received: &[u64],
     sent: &[u64],
     rows: usize,
 ) -> bool
     ensures { λ r. ⌜
-        (let b = bookOf (now (ids .entry)) (now (lengths .entry)) (now (store .entry)) (now (received .entry)) (now (sent .entry)) rows in
+        (let b = bookOf (now (ids .entry)) (now (lengths .entry)) (now (store .entry)) (now (marks .entry)) (now (received .entry)) (now (sent .entry)) rows in
         r ≡ sound b)
         ⌝ }
 {
-    if !sizes_agree(ids, lengths, store, received, sent) {
+    if !sizes_agree(ids, lengths, store, marks, received, sent) {
         return false;
     }
     if ids.len() < rows {
@@ -112,7 +153,10 @@ pub fn is_sound(
     if !ids_ascend(ids, rows) {
         return false;
     }
-    keys_sized(lengths, rows)
+    if !keys_sized(lengths, rows) {
+        return false;
+    }
+    marks_fit(marks, received, rows)
 }
 
 // The first row in use that has this id. Where fewer ids are lent than rows are said to be in use, all of them are looked at.

@@ -6,7 +6,7 @@ use native.Mathlib.Numerals.{add-one}
 use native.Mathlib.Omega.{arith}
 use mathlib.Core.List.{List, [], _∷_, _++_, append-assoc, append-nil}
 use lib.ListN.{length, take, drop, set, length-append, length-drop, take-append-drop, drop-of-length-le}
-use lib.Seq.{sets, sets-eq, length-take-le, take-all, take-append-le, take-append-add, drop-append-le, drop-append-add, take-at, drop-at, drop-drop, set-split}
+use lib.Seq.{length-take-le, take-all, take-append-le, take-append-add, drop-append-le, drop-append-add, take-at, drop-at, drop-drop, set-split}
 use Rattle.octets.specs.Bytes.{written}
 
 pub length-written : (at : ℕ) (new old : List ℕ) → at + length new ≤ length old → length (written at new old) ≡ length old
@@ -120,11 +120,6 @@ written-part a n at new m h k =
     ap (λ (x : List ℕ). take a m ++ x) (sym (written-left at new (take n d) (drop n d) hp) ∙ ap (written at new) (take-append-drop n d))
     ∙ sym (written-right at new (take a m) d)
     ∙ ap₂ (λ (i : ℕ) (x : List ℕ). written (i + at) new x) la (take-append-drop a m)
-
--- stores one by one
-pub sets-written : (at : ℕ) (new old : List ℕ) → at + length new ≤ length old → sets old at new ≡ written at new old
-unfolding written
-sets-written at new old h = sets-eq new old at h ∙ append-assoc (take at old) new (drop (at + length new) old)
 
 -- one element stored
 pub set-written : (at v : ℕ) (old : List ℕ) → at < length old → set old at v ≡ written at (v ∷ []) old

@@ -3,7 +3,7 @@
 // before, and that the book is the one of some card.
 // Not here: what the bytes mean (file_verdict), and what the programs write.
 //
-// The book is lent as ids, key lengths, key store, received counters and sent counters, in this order.
+// The book is lent as ids, key lengths, key store, marks, received counters and sent counters, in this order.
 ghost use mathlib.Core.Path.{_≡_};
 ghost use lib.ListN.{length, take};
 ghost use Rattle.key_book.specs.Book.{bookOf};
@@ -65,17 +65,18 @@ pub fn load_book(
     ids: &mut [u32],
     lengths: &mut [u8],
     store: &mut [u8],
+    marks: &mut [u8],
     received: &mut [u64],
     sent: &mut [u64],
 ) -> Loaded
     ensures { λ r. ⌜
         CardLoaded
-        (bookOf (now (ids .entry)) (now (lengths .entry)) (now (store .entry)) (now (received .entry)) (now (sent .entry)) 0)
-        (bookOf (now (ids .exit)) (now (lengths .exit)) (now (store .exit)) (now (received .exit)) (now (sent .exit)) (rowsLoaded r))
+        (bookOf (now (ids .entry)) (now (lengths .entry)) (now (store .entry)) (now (marks .entry)) (now (received .entry)) (now (sent .entry)) 0)
+        (bookOf (now (ids .exit)) (now (lengths .exit)) (now (store .exit)) (now (marks .exit)) (now (received .exit)) (now (sent .exit)) (rowsLoaded r))
         r
         ⌝ }
 {
     let mut room = [0u8; FILE_ROOM];
     let card = read_file(b"book.card", &mut room);
-    file_verdict::load_card(card, &room, ids, lengths, store, received, sent)
+    file_verdict::load_card(card, &room, ids, lengths, store, marks, received, sent)
 }

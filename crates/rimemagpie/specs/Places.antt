@@ -37,7 +37,7 @@ abbrev pub sealedPlace : (was : ℕ) → Sealing → ℕ
 sealedPlace was (Sealed counter) = counter
 sealedPlace was (Unsealed r) = was
 
--- after reading a card: the rows; after writing one: its size
+-- after reading a card: the rows; after writing or moving one: its size
 abbrev pub rowsPlace : (was : ℕ) → ReadAnswer → ℕ
 rowsPlace was (ReadRefused r) = was
 rowsPlace was (Rows n) = n

@@ -9,12 +9,15 @@ ghost use lib.ListN.{length};
 ghost use Rattle.md5.specs.Entries.{md5Of};
 ghost use Rattle.hmac_md5.specs.Hmac.{hmacOf};
 ghost use Rattle.key_book.specs.Book.{bookOf};
-ghost use Rattle.delayed_auth.specs.Check.{checkOf, receivedAfter, verdictNumber};
+ghost use Rattle.delayed_auth.specs.Check.{checkOf, marksAfter, receivedAfter, verdictNumber};
 ghost use Rattle.delayed_auth.specs.Key.{keyedOf, keyNumber};
 ghost use Rattle.delayed_auth.specs.Seal.{sealOf, sealingOf, messageAfter, sentAfter, outcomeNumber};
+ghost use Rattle.book_card.specs.declared.CardForm.the-variants.{Old, New};
 ghost use Rattle.book_card.specs.Reading.{readOf, readBook, rowsGiven, readNumber};
 ghost use Rattle.book_card.specs.Writing.{writeOf, roomAfter, writeNumber};
+ghost use Rattle.book_card.specs.Moving.{moveOf, roomMoved};
 ghost use Rattle.rimemagpie.specs.Places.{rowPlace, counterPlace, offsetPlace, sizePlace, sealedPlace, rowsPlace, cardPlace};
+use book_card::CardForm;
 use book_card::ReadAnswer;
 use book_card::WriteAnswer;
 use delayed_auth::Keyed;
@@ -45,12 +48,13 @@ pub extern "C" fn rimemagpie_hmac(key: &[u8], message: &[u8], mac: &mut [u8; 16]
     answer.number
 }
 
-// Judges a message, and stores its counter as received where it is accepted.
+// Judges a message, and where it is accepted stores its counter as received and marks its row heard.
 #[no_mangle]
 pub extern "C" fn rimemagpie_check(
     ids: &[u32],
     lengths: &[u8],
     store: &[u8],
+    marks: &mut [u8],
     received: &mut [u64],
     sent: &[u64],
     rows: usize,
@@ -59,23 +63,27 @@ pub extern "C" fn rimemagpie_check(
     counter: &mut u64,
 ) -> u8
     ensures number { λ r. ⌜
-        (let b = bookOf (now (ids .entry)) (now (lengths .entry)) (now (store .entry)) (now (received .entry)) (now (sent .entry)) rows in
+        (let b = bookOf (now (ids .entry)) (now (lengths .entry)) (now (store .entry)) (now (marks .entry)) (now (received .entry)) (now (sent .entry)) rows in
         r ≡ verdictNumber (checkOf b (now (message .entry))))
         ⌝ }
+    ensures marked { λ _. ⌜
+        (let b = bookOf (now (ids .entry)) (now (lengths .entry)) (now (store .entry)) (now (marks .entry)) (now (received .entry)) (now (sent .entry)) rows in
+        now (marks .exit) ≡ marksAfter (checkOf b (now (message .entry))) (now (marks .entry)))
+        ⌝ }
     ensures stored { λ _. ⌜
-        (let b = bookOf (now (ids .entry)) (now (lengths .entry)) (now (store .entry)) (now (received .entry)) (now (sent .entry)) rows in
+        (let b = bookOf (now (ids .entry)) (now (lengths .entry)) (now (store .entry)) (now (marks .entry)) (now (received .entry)) (now (sent .entry)) rows in
         now (received .exit) ≡ receivedAfter (checkOf b (now (message .entry))) (now (received .entry)))
         ⌝ }
     ensures row { λ _. ⌜
-        (let b = bookOf (now (ids .entry)) (now (lengths .entry)) (now (store .entry)) (now (received .entry)) (now (sent .entry)) rows in
+        (let b = bookOf (now (ids .entry)) (now (lengths .entry)) (now (store .entry)) (now (marks .entry)) (now (received .entry)) (now (sent .entry)) rows in
         now (row .exit) ≡ rowPlace (now (row .entry)) (checkOf b (now (message .entry))))
         ⌝ }
     ensures counter { λ _. ⌜
-        (let b = bookOf (now (ids .entry)) (now (lengths .entry)) (now (store .entry)) (now (received .entry)) (now (sent .entry)) rows in
+        (let b = bookOf (now (ids .entry)) (now (lengths .entry)) (now (store .entry)) (now (marks .entry)) (now (received .entry)) (now (sent .entry)) rows in
         now (counter .exit) ≡ counterPlace (now (counter .entry)) (checkOf b (now (message .entry))))
         ⌝ }
 {
-    let verdict = delayed_auth::check(ids, lengths, store, received, sent, rows, message);
+    let verdict = delayed_auth::check(ids, lengths, store, marks, received, sent, rows, message);
     match verdict {
         Verdict::Accepted(at, accepted) => {
             *row = at as u64;
@@ -92,6 +100,7 @@ pub extern "C" fn rimemagpie_key(
     ids: &[u32],
     lengths: &[u8],
     store: &[u8],
+    marks: &[u8],
     received: &[u64],
     sent: &[u64],
     rows: usize,
@@ -100,19 +109,19 @@ pub extern "C" fn rimemagpie_key(
     size: &mut u64,
 ) -> u8
     ensures number { λ r. ⌜
-        (let b = bookOf (now (ids .entry)) (now (lengths .entry)) (now (store .entry)) (now (received .entry)) (now (sent .entry)) rows in
+        (let b = bookOf (now (ids .entry)) (now (lengths .entry)) (now (store .entry)) (now (marks .entry)) (now (received .entry)) (now (sent .entry)) rows in
         r ≡ keyNumber (keyedOf b (now (message .entry))))
         ⌝ }
     ensures offset { λ _. ⌜
-        (let b = bookOf (now (ids .entry)) (now (lengths .entry)) (now (store .entry)) (now (received .entry)) (now (sent .entry)) rows in
+        (let b = bookOf (now (ids .entry)) (now (lengths .entry)) (now (store .entry)) (now (marks .entry)) (now (received .entry)) (now (sent .entry)) rows in
         now (offset .exit) ≡ offsetPlace (now (offset .entry)) (keyedOf b (now (message .entry))))
         ⌝ }
     ensures size { λ _. ⌜
-        (let b = bookOf (now (ids .entry)) (now (lengths .entry)) (now (store .entry)) (now (received .entry)) (now (sent .entry)) rows in
+        (let b = bookOf (now (ids .entry)) (now (lengths .entry)) (now (store .entry)) (now (marks .entry)) (now (received .entry)) (now (sent .entry)) rows in
         now (size .exit) ≡ sizePlace b (now (size .entry)) (keyedOf b (now (message .entry))))
         ⌝ }
 {
-    let keyed = delayed_auth::named_row(ids, lengths, store, received, sent, rows, message);
+    let keyed = delayed_auth::named_row(ids, lengths, store, marks, received, sent, rows, message);
     match keyed {
         Keyed::Row(row) => {
             let key = key_book::key_of(store, lengths, row);
@@ -130,6 +139,7 @@ pub extern "C" fn rimemagpie_seal(
     ids: &[u32],
     lengths: &[u8],
     store: &[u8],
+    marks: &[u8],
     received: &[u64],
     sent: &mut [u64],
     rows: usize,
@@ -138,23 +148,33 @@ pub extern "C" fn rimemagpie_seal(
     counter: &mut u64,
 ) -> u8
     ensures number { λ r. ⌜
-        (let b = bookOf (now (ids .entry)) (now (lengths .entry)) (now (store .entry)) (now (received .entry)) (now (sent .entry)) rows in
+        (let b = bookOf (now (ids .entry)) (now (lengths .entry)) (now (store .entry)) (now (marks .entry)) (now (received .entry)) (now (sent .entry)) rows in
         r ≡ outcomeNumber (sealOf b id (now (message .entry))))
         ⌝ }
     ensures sealed { λ _. ⌜
-        (let b = bookOf (now (ids .entry)) (now (lengths .entry)) (now (store .entry)) (now (received .entry)) (now (sent .entry)) rows in
+        (let b = bookOf (now (ids .entry)) (now (lengths .entry)) (now (store .entry)) (now (marks .entry)) (now (received .entry)) (now (sent .entry)) rows in
         now (message .exit) ≡ messageAfter (sealOf b id (now (message .entry))) (now (message .entry)))
         ⌝ }
     ensures stored { λ _. ⌜
-        (let b = bookOf (now (ids .entry)) (now (lengths .entry)) (now (store .entry)) (now (received .entry)) (now (sent .entry)) rows in
+        (let b = bookOf (now (ids .entry)) (now (lengths .entry)) (now (store .entry)) (now (marks .entry)) (now (received .entry)) (now (sent .entry)) rows in
         now (sent .exit) ≡ sentAfter (sealOf b id (now (message .entry))) (now (sent .entry)))
         ⌝ }
     ensures counter { λ _. ⌜
-        (let b = bookOf (now (ids .entry)) (now (lengths .entry)) (now (store .entry)) (now (received .entry)) (now (sent .entry)) rows in
+        (let b = bookOf (now (ids .entry)) (now (lengths .entry)) (now (store .entry)) (now (marks .entry)) (now (received .entry)) (now (sent .entry)) rows in
         now (counter .exit) ≡ sealedPlace (now (counter .entry)) (sealingOf (sealOf b id (now (message .entry)))))
         ⌝ }
 {
-    let sealing = delayed_auth::seal(ids, lengths, store, received, sent, rows, id, message);
+    let sealing = delayed_auth::seal(
+        ids,
+        lengths,
+        store,
+        marks,
+        received,
+        sent,
+        rows,
+        id,
+        message,
+    );
     match sealing {
         Sealing::Sealed(next) => {
             *counter = next;
@@ -164,32 +184,33 @@ pub extern "C" fn rimemagpie_seal(
     }
 }
 
-// Reads a card into a lent book. Further rows stay as they were.
+// Reads a card of either form into a lent book. Further rows stay as they were.
 #[no_mangle]
 pub extern "C" fn rimemagpie_card_read(
     card: &[u8],
     ids: &mut [u32],
     lengths: &mut [u8],
     store: &mut [u8],
+    marks: &mut [u8],
     received: &mut [u64],
     sent: &mut [u64],
     rows: &mut u64,
 ) -> u8
     ensures number { λ r. ⌜
-        (let b = bookOf (now (ids .entry)) (now (lengths .entry)) (now (store .entry)) (now (received .entry)) (now (sent .entry)) 0 in
+        (let b = bookOf (now (ids .entry)) (now (lengths .entry)) (now (store .entry)) (now (marks .entry)) (now (received .entry)) (now (sent .entry)) 0 in
         r ≡ readNumber (readOf b (now (card .entry))))
         ⌝ }
     ensures book { λ _. ⌜
-        (let b = bookOf (now (ids .entry)) (now (lengths .entry)) (now (store .entry)) (now (received .entry)) (now (sent .entry)) 0 in
-        bookOf (now (ids .exit)) (now (lengths .exit)) (now (store .exit)) (now (received .exit)) (now (sent .exit)) (rowsGiven (readOf b (now (card .entry))))
-        ≡ readBook b (now (card .entry)))
+        (let b = bookOf (now (ids .entry)) (now (lengths .entry)) (now (store .entry)) (now (marks .entry)) (now (received .entry)) (now (sent .entry)) 0 in
+        bookOf (now (ids .exit)) (now (lengths .exit)) (now (store .exit)) (now (marks .exit)) (now (received .exit)) (now (sent .exit))
+        (rowsGiven (readOf b (now (card .entry)))) ≡ readBook b (now (card .entry)))
         ⌝ }
     ensures rows { λ _. ⌜
-        (let b = bookOf (now (ids .entry)) (now (lengths .entry)) (now (store .entry)) (now (received .entry)) (now (sent .entry)) 0 in
+        (let b = bookOf (now (ids .entry)) (now (lengths .entry)) (now (store .entry)) (now (marks .entry)) (now (received .entry)) (now (sent .entry)) 0 in
         now (rows .exit) ≡ rowsPlace (now (rows .entry)) (readOf b (now (card .entry))))
         ⌝ }
 {
-    let answer = book_card::card_read(card, ids, lengths, store, received, sent);
+    let answer = book_card::card_read(card, ids, lengths, store, marks, received, sent);
     match answer {
         ReadAnswer::Rows(read) => {
             *rows = read as u64;
@@ -199,12 +220,13 @@ pub extern "C" fn rimemagpie_card_read(
     }
 }
 
-// Writes the card of a book to the front of a lent room. Later bytes of the room stay as they were.
+// Writes the card of a book, in the new form, to the front of a lent room. Later bytes of the room stay as they were.
 #[no_mangle]
 pub extern "C" fn rimemagpie_card_write(
     ids: &[u32],
     lengths: &[u8],
     store: &[u8],
+    marks: &[u8],
     received: &[u64],
     sent: &[u64],
     rows: usize,
@@ -212,22 +234,56 @@ pub extern "C" fn rimemagpie_card_write(
     size: &mut u64,
 ) -> u8
     ensures number { λ r. ⌜
-        (let b = bookOf (now (ids .entry)) (now (lengths .entry)) (now (store .entry)) (now (received .entry)) (now (sent .entry)) rows in
+        (let b = bookOf (now (ids .entry)) (now (lengths .entry)) (now (store .entry)) (now (marks .entry)) (now (received .entry)) (now (sent .entry)) rows in
         r ≡ writeNumber (writeOf b (length (now (card .entry)))))
         ⌝ }
     ensures room { λ _. ⌜
-        (let b = bookOf (now (ids .entry)) (now (lengths .entry)) (now (store .entry)) (now (received .entry)) (now (sent .entry)) rows in
+        (let b = bookOf (now (ids .entry)) (now (lengths .entry)) (now (store .entry)) (now (marks .entry)) (now (received .entry)) (now (sent .entry)) rows in
         now (card .exit) ≡ roomAfter b (now (card .entry)))
         ⌝ }
     ensures size { λ _. ⌜
-        (let b = bookOf (now (ids .entry)) (now (lengths .entry)) (now (store .entry)) (now (received .entry)) (now (sent .entry)) rows in
+        (let b = bookOf (now (ids .entry)) (now (lengths .entry)) (now (store .entry)) (now (marks .entry)) (now (received .entry)) (now (sent .entry)) rows in
         now (size .exit) ≡ cardPlace (now (size .entry)) (writeOf b (length (now (card .entry)))))
         ⌝ }
 {
-    let answer = book_card::card_write(ids, lengths, store, received, sent, rows, card);
+    let answer = book_card::card_write(ids, lengths, store, marks, received, sent, rows, card);
     match answer {
         WriteAnswer::Size(used) => {
             *size = used as u64;
+            0
+        }
+        WriteAnswer::Refused(refusal) => refusal::number(refusal),
+    }
+}
+
+// Writes a card's rows as a card of the old form to the front of a lent room. Later bytes of the room stay as they were.
+#[no_mangle]
+pub extern "C" fn rimemagpie_card_to_old(card: &[u8], room: &mut [u8], size: &mut u64) -> u8
+    ensures number { λ r. ⌜ r ≡ writeNumber (moveOf Old (now (card .entry)) (length (now (room .entry)))) ⌝ }
+    ensures room { λ _. ⌜ now (room .exit) ≡ roomMoved Old (now (card .entry)) (now (room .entry)) ⌝ }
+    ensures size { λ _. ⌜ now (size .exit) ≡ cardPlace (now (size .entry)) (moveOf Old (now (card .entry)) (length (now (room .entry)))) ⌝ }
+{
+    let answer = book_card::card_move(CardForm::Old, card, room);
+    match answer {
+        WriteAnswer::Size(moved) => {
+            *size = moved as u64;
+            0
+        }
+        WriteAnswer::Refused(refusal) => refusal::number(refusal),
+    }
+}
+
+// Writes a card's rows as a card of the new form to the front of a lent room. Later bytes of the room stay as they were.
+#[no_mangle]
+pub extern "C" fn rimemagpie_card_to_new(card: &[u8], room: &mut [u8], size: &mut u64) -> u8
+    ensures number { λ r. ⌜ r ≡ writeNumber (moveOf New (now (card .entry)) (length (now (room .entry)))) ⌝ }
+    ensures room { λ _. ⌜ now (room .exit) ≡ roomMoved New (now (card .entry)) (now (room .entry)) ⌝ }
+    ensures size { λ _. ⌜ now (size .exit) ≡ cardPlace (now (size .entry)) (moveOf New (now (card .entry)) (length (now (room .entry)))) ⌝ }
+{
+    let answer = book_card::card_move(CardForm::New, card, room);
+    match answer {
+        WriteAnswer::Size(moved) => {
+            *size = moved as u64;
             0
         }
         WriteAnswer::Refused(refusal) => refusal::number(refusal),

@@ -12,7 +12,7 @@ use Rattle.key_book.specs.Book.{Book, bookOf, Sound}
 use Rattle.delayed_auth.specs.declared.Sealing.{Sealing}
 use Rattle.delayed_auth.specs.declared.Verdict.{Verdict}
 use Rattle.delayed_auth.specs.declared.Verdict.the-variants.{Accepted, Refused}
-use Rattle.delayed_auth.specs.Check.{checkOf, receivedAfter, verdictNumber}
+use Rattle.delayed_auth.specs.Check.{checkOf, marksAfter, receivedAfter, verdictNumber}
 use Rattle.delayed_auth.specs.Seal.{sealOf, sealingOf, sealingNumber, messageAfter, sentAfter}
 use Rattle.demands.specs.Demand3.{check, seal, Answer, checked, bookAfter, answers, ending}
 use Rattle.demands.proofs.Stages.{CheckEnd, check-accepts, check-end}
@@ -40,27 +40,30 @@ module _ (b : Book) (m : List ℕ) (id : ℕ) (n : List ℕ) where
 
 -- each call finds what the one before it left
 module _
-    (ids lengths store received sent : List ℕ) (rows : ℕ) (m : List ℕ) (id : ℕ) (n : List ℕ)
-    (first second : Verdict) (sealing : Sealing) (received₁ received₂ sent₁ buffer : List ℕ) (p q r : ℕ)
-    (first-is : first ≡ checkOf (bookOf ids lengths store received sent rows) m)
-    (first-stores : received₁ ≡ receivedAfter (checkOf (bookOf ids lengths store received sent rows) m) received)
-    (seal-is : sealing ≡ sealingOf (sealOf (bookOf ids lengths store received₁ sent rows) id n))
-    (seal-leaves : buffer ≡ messageAfter (sealOf (bookOf ids lengths store received₁ sent rows) id n) n)
-    (seal-stores : sent₁ ≡ sentAfter (sealOf (bookOf ids lengths store received₁ sent rows) id n) sent)
-    (second-is : second ≡ checkOf (bookOf ids lengths store received₁ sent₁ rows) m)
-    (second-stores : received₂ ≡ receivedAfter (checkOf (bookOf ids lengths store received₁ sent₁ rows) m) received₁)
+    (ids lengths store marks received sent : List ℕ) (rows : ℕ) (m : List ℕ) (id : ℕ) (n : List ℕ)
+    (first second : Verdict) (sealing : Sealing) (marks₁ marks₂ received₁ received₂ sent₁ buffer : List ℕ) (p q r : ℕ)
+    (first-is : first ≡ checkOf (bookOf ids lengths store marks received sent rows) m)
+    (first-marks : marks₁ ≡ marksAfter (checkOf (bookOf ids lengths store marks received sent rows) m) marks)
+    (first-stores : received₁ ≡ receivedAfter (checkOf (bookOf ids lengths store marks received sent rows) m) received)
+    (seal-is : sealing ≡ sealingOf (sealOf (bookOf ids lengths store marks₁ received₁ sent rows) id n))
+    (seal-leaves : buffer ≡ messageAfter (sealOf (bookOf ids lengths store marks₁ received₁ sent rows) id n) n)
+    (seal-stores : sent₁ ≡ sentAfter (sealOf (bookOf ids lengths store marks₁ received₁ sent rows) id n) sent)
+    (second-is : second ≡ checkOf (bookOf ids lengths store marks₁ received₁ sent₁ rows) m)
+    (second-marks : marks₂ ≡ marksAfter (checkOf (bookOf ids lengths store marks₁ received₁ sent₁ rows) m) marks₁)
+    (second-stores : received₂ ≡ receivedAfter (checkOf (bookOf ids lengths store marks₁ received₁ sent₁ rows) m) received₁)
     (p-is : p ≡ verdictNumber first) (q-is : q ≡ sealingNumber sealing) (r-is : r ≡ verdictNumber second)
   where
     abbrev b : Book
-    b = bookOf ids lengths store received sent rows
+    b = bookOf ids lengths store marks received sent rows
 
     abbrev run : List Answer
     run = answers b (again m id n)
 
     pub make-up :
         (p ∷ q ∷ r ∷ [] ≡ map answerNumber run) × (buffer ≡ bufferOf run)
-        × (received₂ ≡ ending b (again m id n) .received) × (sent₁ ≡ ending b (again m id n) .sent) × (p ≡ done → r ≡ numberOf Replay)
+        × (marks₂ ≡ ending b (again m id n) .marks) × (received₂ ≡ ending b (again m id n) .received) × (sent₁ ≡ ending b (again m id n) .sent) ×
+        (p ≡ done → r ≡ numberOf Replay)
     unfolding again
     make-up =
-        rw (p-is, q-is, r-is, second-stores, second-is, seal-leaves, seal-is, seal-stores, first-is, first-stores)
-        (refl, refl, refl, refl, replayed b m id n)
+        rw (p-is, q-is, r-is, second-marks, second-stores, second-is, seal-leaves, seal-is, seal-stores, first-is, first-marks, first-stores)
+        (refl, refl, refl, refl, refl, replayed b m id n)

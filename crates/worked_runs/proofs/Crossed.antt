@@ -1,9 +1,9 @@
 -- specs/Crossed.antt, computed as in proofs/Shuffled.antt; a book that differs in secret B by the law of demands/specs/History.antt.
-use mathlib.Core.Path.{_≡_, refl, sym, ap, subst, _∙_}
-use mathlib.Core.Bool.{true}
+use mathlib.Core.Path.{_≡_, refl, sym, ap, ap₂, subst, _∙_}
+use mathlib.Core.Bool.{true, false, true≢false}
 use mathlib.Core.Option.{some, Option·some-injective}
 use mathlib.Core.List.{List, [], _∷_, _++_}
-use Prim.Native.Nat.{ℕ, _≤_}
+use Prim.Native.Nat.{ℕ}
 use native.Mathlib.Omega.{arith}
 use lib.ListN.{getD, drop}
 use Rattle.refusal.specs.declared.Refusal.the-variants.{WrongMac}
@@ -11,19 +11,18 @@ use Rattle.dhcp_message.specs.Options.{Token, opt}
 use Rattle.dhcp_message.specs.Said.{says, saidOf, named}
 use Rattle.dhcp_message.specs.Bench.{someMac}
 use Rattle.dhcp_message.specs.Relay.{added, replaced, removed, Permitted, unchanged, changed}
+use Rattle.dhcp_message.proofs.Replays.{counter-old}
 use Rattle.key_book.specs.Book.{Book, Sound, rowOf, keyOf}
 use Rattle.key_book.proofs.Says.{sound-says}
 use Rattle.delayed_auth.specs.declared.Verdict.the-variants.{Refused}
-use Rattle.delayed_auth.specs.Check.{checkOf}
+use Rattle.delayed_auth.specs.Check.{newTo, checkOf}
 use Rattle.demands.specs.Accepts.{Accepts}
 use Rattle.demands.specs.Demand3.{check, bookAt, Carried, same, relayed, Rearranged}
 use Rattle.demands.specs.History.{names-it, under-it, OnlyOthersDiffer}
 use Rattle.demands.proofs.Below.{never}
 use Rattle.demands.proofs.Stages.{check-accepts, end-check}
-use Rattle.demands.proofs.Runs.{never-falls}
-use Rattle.demands.proofs.ByRow.{walk}
 use Rattle.demands.proofs.Steps.{SameIds, row-kept}
-use Rattle.demands.proofs.Demand3.{demand-3, ids-at, sound-at, rises}
+use Rattle.demands.proofs.Demand3.{demand-3, ids-at, never-new}
 use Rattle.demands.proofs.History.{history}
 use Rattle.worked_runs.specs.Crossed.{idA, book, changedB, authA, authB, relayInfo, otherInfo, plain, behind}
 use Rattle.worked_runs.specs.Crossed.{forged, stale, first, second, place, Crossed}
@@ -61,6 +60,7 @@ others-differ = record {
   room = refl;
   ids = refl;
   key = in-row (λ k. keyOf book k ≡ keyOf changedB k) key-A;
+  mark = in-row (λ k. getD (book .marks) k 0 ≡ getD (changedB .marks) k 0) refl;
   received = in-row (λ k. getD (book .received) k 0 ≡ getD (changedB .received) k 0) refl;
   sent = in-row (λ k. getD (book .sent) k 0 ≡ getD (changedB .sent) k 0) refl;
 }
@@ -108,21 +108,21 @@ stale-says : saidOf stale ≡ says 10 idA someMac
 unfolding computing
 stale-says = refl
 
-stale-on : (b : Book) → SameIds book b → 10 ≤ getD (b .received) 0 0 → (k c : ℕ) → Accepts b stale k c → ⊥
+stale-on : (b : Book) → SameIds book b → newTo b 0 10 ≡ false → (k c : ℕ) → Accepts b stale k c → ⊥
 stale-on b w h k c a =
     let said : says 10 idA someMac ≡ says c (a .id) (a .mac) = sym stale-says ∙ a .form in
     let counter : 10 ≡ c = cc in
     let name : idA ≡ a .id = cc in
     let here : 0 ≡ k = Option·some-injective _ _ (sym row-A ∙ sym (row-kept book b w idA) ∙ ap (rowOf b) name ∙ a .secret) in
-    omega (arith, ap (λ (x : ℕ). getD (b .received) x 0) here, a .above)
+    true≢false (sym (a .new) ∙ ap₂ (newTo b) (sym here) (sym counter) ∙ h)
 
--- the received counter of secret A never falls below where it began
+-- a counter that is not new to secret A at the start is never new to it
 stale-refused : (k c : ℕ) → Accepts (bookAt book second 8) stale k c → ⊥
 stale-refused =
-    let f : Book → ℕ = λ x. getD (x .received) 0 0 in
-    stale-on (bookAt book second 8) (ids-at book is-sound second 8)
-    (never-falls walk f book second 0 8 (omega arith) (omega arith)
-    (λ p s x y z. rises book is-sound (bookAt book second p) s 0 (sound-at book is-sound second p)))
+    stale-on (bookAt book second 8) (ids-at book is-sound second 8) (never-new book is-sound second 0 8 0 10 (omega arith) (omega arith) old)
+  where
+    old : newTo book 0 10 ≡ false
+    old = counter-old 10 10 (omega arith)
 
 -- ---- the second run
 
@@ -149,6 +149,7 @@ unfolding computing
 crossed = record {
   is-sound = is-sound;
   first-answers = refl;
+  first-marks = refl;
   first-received = refl;
   first-sent = refl;
   accepted-A = refl;

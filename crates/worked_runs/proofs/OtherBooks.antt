@@ -40,11 +40,14 @@ module _ (x y : ℕ) where
       ids-size = refl;
       lengths-size = refl;
       store-size = refl;
+      marks-size = refl;
       received-size = refl;
       sent-size = refl;
       same-rows = refl;
       same-ids = both (λ b. b .ids) refl refl;
       same-lengths = both (λ b. b .lengths) refl refl;
+      same-marks = both (λ b. b .marks) refl refl;
+      same-fresh = λ k h _. both (λ b. b .received) refl refl k h;
     };
     bytes = same-byte;
     received = both (λ b. b .received) refl refl;
@@ -55,6 +58,7 @@ module _ (x y : ℕ) where
   on-card = record {
     same-count = refl;
     same-id = both (λ b. b .ids) refl refl;
+    same-mark = both (λ b. b .marks) refl refl;
     same-received = both (λ b. b .received) refl refl;
     same-sent = both (λ b. b .sent) refl refl;
     same-key = λ k l. record { used = l; used-too = l; same-size = both (λ b. b .lengths) refl refl k l; same-bytes = λ i h. same-byte k i l h };
@@ -78,6 +82,7 @@ other-books = record {
   for-check = record {
     secrets = secrets;
     key = λ k s n. of-named (λ k. keyOf book k ≡ keyOf changedB k) key-A k n;
+    mark = λ k s n. of-named (λ k. getD (book .marks) k 0 ≡ getD (changedB .marks) k 0) refl k n;
     received = λ k s n. of-named (λ k. getD (book .received) k 0 ≡ getD (changedB .received) k 0) refl k n;
   };
   for-seal = record {

@@ -47,11 +47,21 @@ again-8 : Permitted (relayedMessage 1 1 (relayInfo ++ (auth8 ++ ended))) (relaye
 unfolding computing tokens8
 again-8 = relays _ _ tt tokens8 tokens8 (omega arith, refl) (kept refl) 2 2 (omega arith) (omega arith) refl (omega arith)
 
+-- the same one shown again, behind another relay
+shown-8 : Permitted (sentMessage auth8) (relayedMessage 3 3 (auth8 ++ ended))
+unfolding computing
+shown-8 =
+    let tokens : List Token = opt 90 (drop 2 auth8) ∷ [] in
+    relays _ _ tt tokens tokens (omega arith, refl) (kept refl) 3 3 (omega arith) (omega arith) refl (omega arith)
+
 relayed-7 : Carried (check (sentMessage auth7)) (check (relayedMessage 1 1 (auth7 ++ ended)))
 relayed-7 = relayed (change-7 .passes) (changed change-7 unchanged)
 
 relayed-8 : Carried (check (sentMessage auth8)) (check (relayedMessage 2 2 (relayInfo ++ (auth8 ++ ended))))
 relayed-8 = relayed (change-8 .passes) (changed change-8 (changed again-8 unchanged))
+
+relayed-again : Carried (check (sentMessage auth8)) (check (relayedMessage 3 3 (auth8 ++ ended)))
+relayed-again = relayed (shown-8 .passes) (changed shown-8 unchanged)
 
 -- ---- the check put in is not accepted there
 
@@ -73,7 +83,7 @@ not-accepted k c a = let e = end-check after-seal forged _ (check-accepts after-
 
 -- back from a place in the second run to the step of the first
 from : ℕ → ℕ
-from p = getD (2 ∷ 4 ∷ 1 ∷ 0 ∷ 3 ∷ []) p 0
+from p = getD (2 ∷ 5 ∷ 1 ∷ 0 ∷ 3 ∷ 4 ∷ []) p 0
 
 orders : inOrder first place ≡ true
 unfolding computing orderOf before beforeAll inOrder
@@ -83,18 +93,20 @@ made : Rearranged book first second place
 unfolding after-seal from
 made =
     rearranged book first second place from
-    (refl and refl and refl and refl and tt)
-    ((_, refl, relayed-7) and (_, refl, relayed-8) and (_, refl, same) and (_, refl, same) and tt)
+    (refl and refl and refl and refl and refl and tt)
+    ((_, refl, relayed-7) and (_, refl, relayed-8) and (_, refl, same) and (_, refl, same) and (_, refl, relayed-again) and tt)
     orders
-    (tt and (forged, refl, not-accepted) and tt and tt and tt and tt)
+    (tt and (forged, refl, not-accepted) and tt and tt and tt and tt and tt)
 
 pub shuffled : Shuffled
-unfolding computing
+unfolding computing after-seal
 shuffled = record {
   is-sound = is-sound;
   first-answers = refl;
+  first-marks = refl;
   first-received = refl;
   first-sent = refl;
+  forged-there = wrong-mac;
   made = made;
   same-run = demand-3 .any-order book is-sound first second place made;
 }

@@ -32,11 +32,11 @@ sentB = 1230066625199609855
 
 -- key 1, 2, 3, 4 and key 5, 6, 7, 8
 abbrev pub book : Book
-book = bookOf (idA ∷ idB ∷ []) (4 ∷ 4 ∷ []) (1 ∷ 2 ∷ 3 ∷ 4 ∷ (zeros 60 ++ (5 ∷ 6 ∷ 7 ∷ 8 ∷ zeros 60))) (10 ∷ 10 ∷ []) (3 ∷ sentB ∷ []) 2
+book = bookOf (idA ∷ idB ∷ []) (4 ∷ 4 ∷ []) (1 ∷ 2 ∷ 3 ∷ 4 ∷ (zeros 60 ++ (5 ∷ 6 ∷ 7 ∷ 8 ∷ zeros 60))) (1 ∷ 1 ∷ []) (10 ∷ 10 ∷ []) (3 ∷ sentB ∷ []) 2
 
--- the same but for secret B: another key, of another length, and other counters
+-- the same but for secret B: another key, of another length, not heard, and other counters
 abbrev pub changedB : Book
-changedB = bookOf (idA ∷ idB ∷ []) (4 ∷ 2 ∷ []) (1 ∷ 2 ∷ 3 ∷ 4 ∷ (zeros 60 ++ (9 ∷ 9 ∷ zeros 62))) (10 ∷ 99 ∷ []) (3 ∷ 0 ∷ []) 2
+changedB = bookOf (idA ∷ idB ∷ []) (4 ∷ 2 ∷ []) (1 ∷ 2 ∷ 3 ∷ 4 ∷ (zeros 60 ++ (9 ∷ 9 ∷ zeros 62))) (1 ∷ 0 ∷ []) (10 ∷ 0 ∷ []) (3 ∷ 0 ∷ []) 2
 
 -- ---- messages
 
@@ -130,6 +130,7 @@ pub record Crossed : Type 0 where
   pub first-answers : answers book first
       ≡ wrote (Sealed 4) sealedA ∷ wrote (Sealed 1230066625199609856) sealedB ∷ wrote (Unsealed UnknownSecret) toSeal
       ∷ checked (Refused MessageSize) ∷ checked (Refused NoAuthentication) ∷ checked (Accepted 0 counterA) ∷ checked (Accepted 1 20) ∷ []
+  pub first-marks : ending book first .marks ≡ 1 ∷ 1 ∷ []
   pub first-received : ending book first .received ≡ counterA ∷ 20 ∷ []
   pub first-sent : ending book first .sent ≡ 4 ∷ 1230066625199609856 ∷ []
   -- what `History` counts in it, for a secret that is in the book and for one that is not

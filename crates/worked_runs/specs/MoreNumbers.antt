@@ -1,5 +1,5 @@
 -- A case for each number (docs/RULES.md, 'Numbers') that is shown as a number nowhere else: 2 to 9 are in dhcp_message/specs/Bench.antt, 10 to 12 in
--- demands/specs/Bench.antt, 14 in md5/specs/Limits.antt, 15 in card_laws/specs/Examples.antt. The one proof is proofs/MoreNumbers.antt.
+-- demands/specs/Bench.antt, 14 in md5/specs/Limits.antt, 15 and 18 in card_laws/specs/Examples.antt. The one proof is proofs/MoreNumbers.antt.
 use mathlib.Core.Path.{_≡_}
 use mathlib.Core.List.{[], _∷_}
 use Rattle.key_book.specs.Book.{Book, bookOf}
@@ -12,16 +12,16 @@ use Rattle.demands.specs.Bench.{forgedMessage}
 
 -- no room for a row, and none in use
 abbrev pub noRoom : Book
-noRoom = bookOf [] [] [] [] [] 0
+noRoom = bookOf [] [] [] [] [] [] 0
 
 -- book B, its sent counter the largest
 abbrev pub spentB : Book
-spentB = bookOf (bookB .ids) (bookB .lengths) (bookB .store) (bookB .received) (18446744073709551615 ∷ []) 1
+spentB = bookOf (bookB .ids) (bookB .lengths) (bookB .store) (bookB .marks) (bookB .received) (18446744073709551615 ∷ []) 1
 
 pub record MoreNumbers : Type 0 where
   -- a row in use that there is no room for
-  pub number-1 : verdictNumber (checkOf (bookOf [] [] [] [] [] 1) (forgedMessage 11 7)) ≡ 1
+  pub number-1 : verdictNumber (checkOf (bookOf [] [] [] [] [] [] 1) (forgedMessage 11 7)) ≡ 1
   pub number-13 : outcomeNumber (sealOf spentB 7 (forgedMessage 11 7)) ≡ 13
   -- a byte less than the card of B has
-  pub number-16 : writeNumber (writeOf bookB 33) ≡ 16
+  pub number-16 : writeNumber (writeOf bookB 34) ≡ 16
   pub number-17 : readNumber (readOf noRoom cardB) ≡ 17

@@ -12,13 +12,13 @@ use Rattle.worked_runs.specs.Crossed.{idA, idB, book, changedB, authA, r
 abbrev pub filledWith : ℕ → Book
 filledWith x =
     bookOf (idA ∷ idB ∷ x ∷ []) (4 ∷ 4 ∷ x ∷ []) (1 ∷ 2 ∷ 3 ∷ 4 ∷ (replicate 60 x ++ (5 ∷ 6 ∷ 7 ∷ 8 ∷ replicate 124 x)))
-    (10 ∷ 20 ∷ x ∷ []) (3 ∷ 4 ∷ x ∷ []) 2
+    (1 ∷ 0 ∷ x ∷ []) (10 ∷ 0 ∷ x ∷ []) (3 ∷ 4 ∷ x ∷ []) 2
 
 pub record OtherBooks : Type 0 where
   pub filled-sound : (x : ℕ) → Sound (filledWith x)
   -- slot bytes past a key, and rows from the row count on
   pub in-use : (x y : ℕ) → SameInUse (filledWith x) (filledWith y)
   pub on-card : (x y : ℕ) → SameRows (filledWith x) (filledWith y)
-  -- another secret's key and counters: for a check that names secret A, and for a seal under it
+  -- another secret's key, mark and counters: for a check that names secret A, and for a seal under it
   pub for-check : SameForCheck book changedB (plain (authA ++ relayInfo))
   pub for-seal : SameForSeal book changedB idA

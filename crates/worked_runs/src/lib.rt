@@ -40,11 +40,12 @@ fn sealing_number(sealing: Sealing) -> u8
 }
 
 // Checks a message, seals another, and checks the first message again. The three calls make up the run `again` of demand 3: their numbers, the
-// sealed buffer and the counters are the run's; and where the first check accepts, the second refuses with 11.
+// sealed buffer, the marks and the counters are the run's; and where the first check accepts, the second refuses with 11.
 pub fn check_again(
     ids: &[u32],
     lengths: &[u8],
     store: &[u8],
+    marks: &mut [u8],
     received: &mut [u64],
     sent: &mut [u64],
     rows: usize,
@@ -53,26 +54,30 @@ pub fn check_again(
     buffer: &mut [u8],
 ) -> Numbers
     ensures numbers { λ r. ⌜
-        (let b = bookOf (now (ids .entry)) (now (lengths .entry)) (now (store .entry)) (now (received .entry)) (now (sent .entry)) rows in
+        (let b = bookOf (now (ids .entry)) (now (lengths .entry)) (now (store .entry)) (now (marks .entry)) (now (received .entry)) (now (sent .entry)) rows in
         r .first ∷ r .sealed ∷ r .second ∷ [] ≡ map answerNumber (answers b (again (now (message .entry)) id (now (buffer .entry)))))
         ⌝ }
     ensures sealed { λ _. ⌜
-        (let b = bookOf (now (ids .entry)) (now (lengths .entry)) (now (store .entry)) (now (received .entry)) (now (sent .entry)) rows in
+        (let b = bookOf (now (ids .entry)) (now (lengths .entry)) (now (store .entry)) (now (marks .entry)) (now (received .entry)) (now (sent .entry)) rows in
         now (buffer .exit) ≡ bufferOf (answers b (again (now (message .entry)) id (now (buffer .entry)))))
         ⌝ }
+    ensures marks { λ _. ⌜
+        (let b = bookOf (now (ids .entry)) (now (lengths .entry)) (now (store .entry)) (now (marks .entry)) (now (received .entry)) (now (sent .entry)) rows in
+        now (marks .exit) ≡ ending b (again (now (message .entry)) id (now (buffer .entry))) .marks)
+        ⌝ }
     ensures received { λ _. ⌜
-        (let b = bookOf (now (ids .entry)) (now (lengths .entry)) (now (store .entry)) (now (received .entry)) (now (sent .entry)) rows in
+        (let b = bookOf (now (ids .entry)) (now (lengths .entry)) (now (store .entry)) (now (marks .entry)) (now (received .entry)) (now (sent .entry)) rows in
         now (received .exit) ≡ ending b (again (now (message .entry)) id (now (buffer .entry))) .received)
         ⌝ }
     ensures sent { λ _. ⌜
-        (let b = bookOf (now (ids .entry)) (now (lengths .entry)) (now (store .entry)) (now (received .entry)) (now (sent .entry)) rows in
+        (let b = bookOf (now (ids .entry)) (now (lengths .entry)) (now (store .entry)) (now (marks .entry)) (now (received .entry)) (now (sent .entry)) rows in
         now (sent .exit) ≡ ending b (again (now (message .entry)) id (now (buffer .entry))) .sent)
         ⌝ }
     ensures replay { λ r. ⌜ (r .first ≡ done → r .second ≡ numberOf Replay) ⌝ }
 {
-    let first = delayed_auth::check(ids, lengths, store, received, sent, rows, message);
-    let sealing = delayed_auth::seal(ids, lengths, store, received, sent, rows, id, buffer);
-    let second = delayed_auth::check(ids, lengths, store, received, sent, rows, message);
+    let first = delayed_auth::check(ids, lengths, store, marks, received, sent, rows, message);
+    let sealing = delayed_auth::seal(ids, lengths, store, marks, received, sent, rows, id, buffer);
+    let second = delayed_auth::check(ids, lengths, store, marks, received, sent, rows, message);
     Numbers {
         first: verdict_number(first),
         sealed: sealing_number(sealing),

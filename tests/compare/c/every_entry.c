@@ -35,6 +35,7 @@ struct book {
     uint32_t *ids;
     uint8_t *lengths;
     uint8_t *store;
+    uint8_t *marks;
     uint64_t *received;
     uint64_t *sent;
 };
@@ -46,9 +47,10 @@ static struct book empty_book(void)
     book.ids = (uint32_t *)calloc(2, sizeof *book.ids);
     book.lengths = (uint8_t *)calloc(2, 1);
     book.store = (uint8_t *)calloc(2, 64);
+    book.marks = (uint8_t *)calloc(2, 1);
     book.received = (uint64_t *)calloc(2, sizeof *book.received);
     book.sent = (uint64_t *)calloc(2, sizeof *book.sent);
-    EXPECT(book.ids && book.lengths && book.store && book.received && book.sent);
+    EXPECT(book.ids && book.lengths && book.store && book.marks && book.received && book.sent);
     return book;
 }
 
@@ -57,11 +59,13 @@ static void free_book(struct book book)
     free(book.ids);
     free(book.lengths);
     free(book.store);
+    free(book.marks);
     free(book.received);
     free(book.sent);
 }
 
-#define LENT(book) (book).ids, 2, (book).lengths, 2, (book).store, 128, (book).received, 2, (book).sent, 2
+#define LENT(book) \
+    (book).ids, 2, (book).lengths, 2, (book).store, 128, (book).marks, 2, (book).received, 2, (book).sent, 2
 
 /* 236 zeros, the cookie, option 90 in full form and option 82 with four bytes, at these two places, and End. */
 static void make_message(uint8_t message[280], size_t authentication_at, size_t relay_agent_at)
@@ -96,7 +100,7 @@ static void digests(void)
     EXPECT(rimemagpie_hmac(long_message, 65, want, 28, out) == RIMEMAGPIE_TOO_LONG && memcmp(out, zeros, 16) == 0);
 }
 
-/* Row 1 has the id 7 and a key of four bytes; row 0 is there to be passed over. */
+/* Row 1 has the id 7 and a key of four bytes, and is heard; row 0 is there to be passed over, and is not. */
 static struct book book_of_two(void)
 {
     struct book book = empty_book();
@@ -106,6 +110,7 @@ static struct book book_of_two(void)
     book.lengths[0] = 64;
     book.lengths[1] = 4;
     memcpy(book.store + 64, "\1\2\3\4", 4);
+    book.marks[1] = RIMEMAGPIE_HEARD;
     book.received[1] = 10;
     book.sent[1] = 10;
     return book;
@@ -123,7 +128,44 @@ static void seal_key_and_check(struct book book, uint8_t *message)
     EXPECT(rimemagpie_check(LENT(book), 3, message, 280, &row, &counter) == RIMEMAGPIE_UNSOUND_BOOK);
     EXPECT(rimemagpie_check(LENT(book), 2, message, 280, &row, &counter) == RIMEMAGPIE_DONE);
     EXPECT(row == 1 && counter == 11 && book.received[0] == 0 && book.received[1] == 11);
+    EXPECT(book.marks[0] == RIMEMAGPIE_NOT_HEARD && book.marks[1] == RIMEMAGPIE_HEARD);
     EXPECT(rimemagpie_check(LENT(book), 2, message, 280, &row, &counter) == RIMEMAGPIE_REPLAY);
+}
+
+/* Gives the message counter 0, id 7 and the right MAC, which covers it without its option 82. */
+static void sign_with_0(uint8_t *message, size_t authentication_at, size_t relay_agent_at)
+{
+    static const uint8_t id[] = {0, 0, 0, 7};
+    uint8_t image[274], mac[16];
+
+    memset(message + authentication_at + 5, 0, 28);
+    memcpy(message + authentication_at + 13, id, sizeof id);
+    memcpy(image, message, relay_agent_at);
+    memcpy(image + relay_agent_at, message + relay_agent_at + 6, sizeof image - relay_agent_at);
+    EXPECT(rimemagpie_hmac((const uint8_t *)"\1\2\3\4", 4, image, sizeof image, mac) == RIMEMAGPIE_DONE);
+    memcpy(message + authentication_at + 17, mac, sizeof mac);
+}
+
+/* A message with counter 0 is refused by a heard row, and accepted once by one that is not heard. */
+static void check_with_0(struct book book, uint8_t *message)
+{
+    uint64_t row = 9, counter = 9;
+
+    EXPECT(rimemagpie_check(LENT(book), 2, message, 280, &row, &counter) == RIMEMAGPIE_REPLAY);
+    book.marks[1] = RIMEMAGPIE_NOT_HEARD;
+    EXPECT(rimemagpie_check(LENT(book), 2, message, 280, &row, &counter) == RIMEMAGPIE_UNSOUND_BOOK);
+    book.received[1] = 0;
+    message[100] ^= 1;
+    EXPECT(rimemagpie_check(LENT(book), 2, message, 280, &row, &counter) == RIMEMAGPIE_WRONG_MAC);
+    message[100] ^= 1;
+    EXPECT(row == 9 && counter == 9 && book.marks[1] == RIMEMAGPIE_NOT_HEARD);
+    EXPECT(rimemagpie_check(LENT(book), 2, message, 280, &row, &counter) == RIMEMAGPIE_DONE);
+    EXPECT(row == 1 && counter == 0 && book.received[1] == 0);
+    EXPECT(book.marks[0] == RIMEMAGPIE_NOT_HEARD && book.marks[1] == RIMEMAGPIE_HEARD);
+    EXPECT(rimemagpie_check(LENT(book), 2, message, 280, &row, &counter) == RIMEMAGPIE_REPLAY);
+    book.marks[0] = 2;
+    EXPECT(rimemagpie_check(LENT(book), 2, message, 280, &row, &counter) == RIMEMAGPIE_UNSOUND_BOOK);
+    EXPECT(rimemagpie_check(LENT(book), 0, message, 280, &row, &counter) == RIMEMAGPIE_UNKNOWN_SECRET);
 }
 
 /* The message cut to each length is refused by all three. */
@@ -143,10 +185,25 @@ static void cut_messages(struct book book, const uint8_t *message)
     EXPECT(one == 0 && two == 0);
 }
 
+/* The sizes of the book's card in the old form and in the new one. */
+#define OLD_SIZE (24 + 64 + 24 + 4 + 6)
+#define NEW_SIZE (25 + 64 + 25 + 4 + 6)
+
+/* Both rows of two books are the same. */
+static void expect_same(struct book one, struct book other)
+{
+    EXPECT(memcmp(one.ids, other.ids, 2 * sizeof *one.ids) == 0);
+    EXPECT(memcmp(one.lengths, other.lengths, 2) == 0);
+    EXPECT(memcmp(one.store, other.store, 128) == 0);
+    EXPECT(memcmp(one.marks, other.marks, 2) == 0);
+    EXPECT(memcmp(one.received, other.received, 2 * sizeof *one.received) == 0);
+    EXPECT(memcmp(one.sent, other.sent, 2 * sizeof *one.sent) == 0);
+}
+
 /* The card written, read back, and refused at each length it is cut to. */
 static void cards(struct book book)
 {
-    size_t size = 24 + 64 + 24 + 4 + 6;
+    size_t size = NEW_SIZE;
     uint8_t *card = (uint8_t *)calloc(size, 1);
     struct book read = empty_book();
     uint64_t written = 0, rows = 0;
@@ -161,15 +218,106 @@ static void cards(struct book book)
         EXPECT(rimemagpie_card_read(part, cut, LENT(read), &rows) == RIMEMAGPIE_MALFORMED_CARD && rows == 0);
         free(part);
     }
-    EXPECT(rimemagpie_card_read(card, size, read.ids, 1, read.lengths, 1, read.store, 64, read.received, 1,
+    EXPECT(rimemagpie_card_read(card, size, read.ids, 1, read.lengths, 1, read.store, 64, read.marks, 1, read.received, 1,
                                 read.sent, 1, &rows) == RIMEMAGPIE_NO_ROOM_FOR_ROWS);
     EXPECT(rimemagpie_card_read(card, size, LENT(read), &rows) == RIMEMAGPIE_DONE && rows == 2);
-    EXPECT(memcmp(read.ids, book.ids, 2 * sizeof *book.ids) == 0);
-    EXPECT(memcmp(read.lengths, book.lengths, 2) == 0);
-    EXPECT(memcmp(read.store, book.store, 128) == 0);
-    EXPECT(memcmp(read.received, book.received, 2 * sizeof *book.received) == 0);
-    EXPECT(memcmp(read.sent, book.sent, 2 * sizeof *book.sent) == 0);
+    expect_same(read, book);
     free_book(read);
+    free(card);
+}
+
+typedef uint8_t (*mover)(const uint8_t *, size_t, uint8_t *, size_t, uint64_t *);
+
+/* Moves a card into a block of that size, which holds nines before and is handed back. */
+static uint8_t *moved(mover move, const uint8_t *card, size_t size, size_t room_size, uint8_t number, uint64_t *moved_size)
+{
+    uint8_t nines[NEW_SIZE + 3];
+    uint8_t *room;
+
+    memset(nines, 9, sizeof nines);
+    room = block_of(nines, room_size);
+    EXPECT(move(card, size, room, room_size, moved_size) == number);
+    return room;
+}
+
+/* A move into a room of that size is refused with this number and changes nothing: no byte of the room, nor the size. */
+static void move_refused(mover move, const uint8_t *card, size_t size, size_t room_size, uint8_t number)
+{
+    uint64_t moved_size = 7;
+    uint8_t *room = moved(move, card, size, room_size, number, &moved_size);
+
+    EXPECT(moved_size == 7);
+    for (size_t i = 0; i < room_size; i++)
+        EXPECT(room[i] == 9);
+    free(room);
+}
+
+/* A move into a byte too little is refused; into just enough and into more it gives the expected card, and no more. */
+static void move_to(mover move, const uint8_t *card, size_t size, const uint8_t *expected, size_t expected_size)
+{
+    move_refused(move, card, size, expected_size - 1, RIMEMAGPIE_NO_ROOM_FOR_CARD);
+    for (size_t room_size = expected_size; room_size <= expected_size + 3; room_size++) {
+        uint64_t moved_size = 7;
+        uint8_t *room = moved(move, card, size, room_size, RIMEMAGPIE_DONE, &moved_size);
+
+        EXPECT(moved_size == expected_size && memcmp(room, expected, expected_size) == 0);
+        for (size_t i = expected_size; i < room_size; i++)
+            EXPECT(room[i] == 9);
+        free(room);
+    }
+}
+
+/* The card cut to each length is refused, in whatever room. */
+static void move_cut(mover move, const uint8_t *card, size_t size)
+{
+    for (size_t cut = 0; cut < size; cut++) {
+        uint8_t *part = block_of(card, cut);
+
+        move_refused(move, part, cut, NEW_SIZE, RIMEMAGPIE_MALFORMED_CARD);
+        move_refused(move, part, cut, 0, RIMEMAGPIE_MALFORMED_CARD);
+        free(part);
+    }
+}
+
+/* The old card of a book whose rows are both heard gives that book, marks too, whatever marks were there before. */
+static void read_old(const uint8_t *old, struct book book)
+{
+    struct book read = empty_book();
+    uint64_t rows = 7;
+
+    memset(read.marks, 9, 2);
+    EXPECT(rimemagpie_card_read(old, OLD_SIZE, LENT(read), &rows) == RIMEMAGPIE_DONE && rows == 2);
+    EXPECT(read.marks[0] == RIMEMAGPIE_HEARD && read.marks[1] == RIMEMAGPIE_HEARD);
+    expect_same(read, book);
+    free_book(read);
+}
+
+/* The book's card in both forms. The old one is there once both rows are heard. */
+static void moves(struct book book)
+{
+    uint8_t *card = (uint8_t *)calloc(NEW_SIZE, 1);
+    uint64_t size = 7;
+    uint8_t *old;
+
+    EXPECT(card != NULL);
+    EXPECT(rimemagpie_card_write(LENT(book), 2, card, NEW_SIZE, &size) == RIMEMAGPIE_DONE && size == NEW_SIZE);
+    move_refused(rimemagpie_card_to_old, card, NEW_SIZE, OLD_SIZE - 1, RIMEMAGPIE_NO_ROOM_FOR_CARD);
+    move_refused(rimemagpie_card_to_old, card, NEW_SIZE, OLD_SIZE, RIMEMAGPIE_ROW_NOT_HEARD);
+    move_refused(rimemagpie_card_to_old, card, NEW_SIZE, NEW_SIZE, RIMEMAGPIE_ROW_NOT_HEARD);
+    move_to(rimemagpie_card_to_new, card, NEW_SIZE, card, NEW_SIZE);
+
+    book.marks[0] = RIMEMAGPIE_HEARD;
+    EXPECT(rimemagpie_card_write(LENT(book), 2, card, NEW_SIZE, &size) == RIMEMAGPIE_DONE);
+    old = moved(rimemagpie_card_to_old, card, NEW_SIZE, OLD_SIZE, RIMEMAGPIE_DONE, &size);
+    EXPECT(size == OLD_SIZE && old[0] == 86 && old[2] == 1 && card[0] == 87 && card[2] == 3);
+    move_to(rimemagpie_card_to_old, card, NEW_SIZE, old, OLD_SIZE);
+    move_to(rimemagpie_card_to_old, old, OLD_SIZE, old, OLD_SIZE);
+    move_to(rimemagpie_card_to_new, card, NEW_SIZE, card, NEW_SIZE);
+    move_to(rimemagpie_card_to_new, old, OLD_SIZE, card, NEW_SIZE);
+    move_cut(rimemagpie_card_to_old, card, NEW_SIZE);
+    move_cut(rimemagpie_card_to_new, old, OLD_SIZE);
+    read_old(old, book);
+    free(old);
     free(card);
 }
 
@@ -187,6 +335,8 @@ static void messages(size_t authentication_at, size_t relay_agent_at)
     EXPECT(memcmp(message, plain, authentication_at + 5) == 0);
     EXPECT(memcmp(message + behind, plain + behind, 280 - behind) == 0);
     cut_messages(book, message);
+    sign_with_0(message, authentication_at, relay_agent_at);
+    check_with_0(book, message);
     free(message);
     free_book(book);
 }
@@ -199,6 +349,7 @@ int main(void)
     messages(240, 273);
     messages(246, 240);
     cards(book);
+    moves(book);
     free_book(book);
     return 0;
 }

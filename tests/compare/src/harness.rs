@@ -38,7 +38,7 @@ fn from_environment(name: &str, default: u64) -> u64 {
 pub fn compare(
     entry: &str,
     reachable: &[u8],
-    one_case: impl Fn(&mut Random) -> Result<u8, Difference>,
+    mut one_case: impl FnMut(&mut Random) -> Result<u8, Difference>,
 ) {
     let mut tally = Tally::new(entry);
     for_each_case(entry, cases(), |random| {
@@ -90,6 +90,14 @@ impl<T: Ord + Display> Tally<T> {
             .map(|(what, count)| format!("{what}: {count}"))
             .collect();
         say(&format!("{}: {total} ({})", self.name, parts.join(", ")));
+    }
+
+    /// None of these came up.
+    pub fn forbid(&self, unreachable: &[T]) {
+        for what in unreachable {
+            let count = self.counts.get(what).copied().unwrap_or(0);
+            assert!(count == 0, "{}: {what} came up {count} times", self.name);
+        }
     }
 
     pub fn require(&self, reachable: &[T]) {

@@ -46,11 +46,12 @@ impl<T: Copy + PartialEq + Debug + From<u8>> Lent<T> {
     }
 }
 
-/// The five buffers of a book, and its row count.
+/// The six buffers of a book, and its row count.
 pub struct LentBook {
     pub ids: Lent<u32>,
     pub lengths: Lent<u8>,
     pub store: Lent<u8>,
+    pub marks: Lent<u8>,
     pub received: Lent<u64>,
     pub sent: Lent<u64>,
     pub rows: usize,
@@ -62,17 +63,19 @@ impl LentBook {
             ids: Lent::new(&book.ids, random),
             lengths: Lent::new(&book.lengths, random),
             store: Lent::new(&book.store, random),
+            marks: Lent::new(&book.marks, random),
             received: Lent::new(&book.received, random),
             sent: Lent::new(&book.sent, random),
             rows: book.rows,
         }
     }
 
-    /// Whether all five buffers hold what the book has.
+    /// Whether all six buffers hold what the book has.
     pub fn holds(&self, expected: &Book) -> Result<(), Difference> {
         self.ids.holds("ids", &expected.ids)?;
         self.lengths.holds("lengths", &expected.lengths)?;
         self.store.holds("store", &expected.store)?;
+        self.marks.holds("marks", &expected.marks)?;
         self.received.holds("received", &expected.received)?;
         self.sent.holds("sent", &expected.sent)
     }

@@ -14,6 +14,7 @@
 pub mod generate;
 pub mod harness;
 pub mod lent;
+pub mod met;
 pub mod outside;
 pub mod programs;
 pub mod random;

@@ -5,7 +5,7 @@
 use crate::outside::{repository_file, run, run_well, Folder};
 use std::fs::{self, File};
 use std::io::{ErrorKind, Write};
-use std::os::unix::fs::symlink;
+use std::os::unix::fs::{symlink, OpenOptionsExt};
 use std::path::{Path, PathBuf};
 use std::process::Command;
 use std::sync::mpsc::{self, Receiver};
@@ -80,6 +80,9 @@ pub fn pipe(folder: &Folder, name: &str) -> PathBuf {
     path
 }
 
+/// Linux's flag for opening a pipe without waiting for the other end.
+const O_NONBLOCK: i32 = 0o4000;
+
 /// Waits until a pipe is opened for reading, and opens it for writing.
 fn writing_end(pipe: &Path) -> File {
     let end = File::options().write(true).open(pipe);
@@ -115,7 +118,10 @@ pub fn judged_in_pieces(program: &Path, folder: &Folder, name: &str, pieces: &[&
                 thread::sleep(Duration::from_millis(pause));
             }
         });
-        run_well(Command::new(program).current_dir(folder.path()))
+        let written = run_well(Command::new(program).current_dir(folder.path()));
+        // A program that never opened the pipe leaves its writer waiting: it must not wait forever.
+        drop(File::options().read(true).custom_flags(O_NONBLOCK).open(&pipe));
+        written
     })
 }
 

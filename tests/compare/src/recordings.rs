@@ -7,7 +7,7 @@ use crate::harness::{same_items, Difference};
 use crate::outside::{judge_capture, Folder};
 use crate::programs::{judged_by, put, At, CARD};
 use reference::capture::Order;
-use reference::examples::CARD_B;
+use reference::examples::NEW_CARD_B;
 use std::iter;
 use std::process::Command;
 
@@ -56,7 +56,7 @@ pub fn same_lines(expected: &str, found: &str) -> Result<(), Difference> {
 
 /// The text that both write on a capture and book B.
 pub fn agreed(capture: &[u8]) -> String {
-    both(&CARD_B, capture).unwrap_or_else(|difference| panic!("{difference}"))
+    both(&NEW_CARD_B, capture).unwrap_or_else(|difference| panic!("{difference}"))
 }
 
 /// Frames that book B accepts one after another, right in every field.

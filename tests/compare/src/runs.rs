@@ -82,6 +82,7 @@ pub fn lend(book: &mut Book) -> rimemagpie::Book<'_> {
         ids: &mut book.ids,
         lengths: &mut book.lengths,
         store: &mut book.store,
+        marks: &mut book.marks,
         received: &mut book.received,
         sent: &mut book.sent,
         rows: book.rows,
@@ -113,22 +114,62 @@ pub fn run<I: Implementation>(start: &Book, steps: &[Step]) -> Outcome {
 /// A random run from a book: messages it accepts, messages sealed in the run, messages seen before,
 /// and any others.
 pub fn first_run(random: &mut Random, start: &Book) -> Vec<Step> {
-    let mut book = start.clone();
-    let mut steps: Vec<Step> = Vec::new();
-    let mut seen: Vec<Vec<u8>> = Vec::new();
-    for _ in 0..random.within(1..=24) {
-        let step = match random.below(10) {
-            0..=3 => new_check(random, &book, &mut seen),
-            4..=5 if !seen.is_empty() => check_again(random, &seen),
-            _ => new_seal(random, &book),
-        };
-        let answer = take_step::<Reference>(&mut book, &step);
-        if let Answer::Seal(Ok(_), buffer) = answer {
-            seen.push(buffer);
-        }
-        steps.push(step);
+    let mut making = Making::from(start);
+    let count = random.within(1..=24);
+    making.take_any(random, count);
+    making.steps
+}
+
+/// A run that begins with the first message under a row that is not heard, with this counter. The
+/// message is checked again, as it was and relay-changed, and other steps stand between.
+pub fn run_from(random: &mut Random, start: &Book, row: usize, counter: u64) -> Vec<Step> {
+    let mut making = Making::from(start);
+    let message = messages::well_formed_with(random, start, row, counter);
+    let relayed = relays::changed(random, &message);
+    making.seen.push(message.clone());
+    for message in [message.clone(), message, relayed] {
+        making.take(Step::Check { message, origin: 0 });
+        let count = random.within(0..=8);
+        making.take_any(random, count);
     }
-    steps
+    making.steps
+}
+
+/// A run in the making: the book that the next step meets, the steps so far, and the messages that
+/// were made in it.
+struct Making {
+    book: Book,
+    steps: Vec<Step>,
+    seen: Vec<Vec<u8>>,
+}
+
+impl Making {
+    fn from(start: &Book) -> Self {
+        Making {
+            book: start.clone(),
+            steps: Vec::new(),
+            seen: Vec::new(),
+        }
+    }
+
+    fn take(&mut self, step: Step) {
+        let answer = take_step::<Reference>(&mut self.book, &step);
+        if let Answer::Seal(Ok(_), buffer) = answer {
+            self.seen.push(buffer);
+        }
+        self.steps.push(step);
+    }
+
+    fn take_any(&mut self, random: &mut Random, count: usize) {
+        for _ in 0..count {
+            let step = match random.below(10) {
+                0..=3 => new_check(random, &self.book, &mut self.seen),
+                4..=5 if !self.seen.is_empty() => check_again(random, &self.seen),
+                _ => new_seal(random, &self.book),
+            };
+            self.take(step);
+        }
+    }
 }
 
 /// A check of a message not seen before, mostly one that is accepted.
@@ -316,19 +357,34 @@ fn foreign_check(random: &mut Random, book: &Book) -> Step {
     }
 }
 
-/// The checks of a run that check an accepted message again: their answers, which must all be 11.
-pub fn replays<'a>(steps: &[Step], answers: &'a [Answer]) -> Vec<&'a Answer> {
-    let mut accepted = Vec::new();
+/// A check of a message that was accepted before.
+pub struct Replay<'a> {
+    /// What was accepted then.
+    pub accepted: Accepted,
+    /// Whether it has other bytes now, which relays changed.
+    pub relayed: bool,
+    /// What the check got, which must be 11.
+    pub answer: &'a Answer,
+}
+
+/// The checks of a run that check an accepted message again.
+pub fn replays<'a>(steps: &[Step], answers: &'a [Answer]) -> Vec<Replay<'a>> {
+    let mut taken: Vec<(&usize, &Vec<u8>, Accepted)> = Vec::new();
     let mut again = Vec::new();
     for (step, answer) in steps.iter().zip(answers) {
-        let Step::Check { origin, .. } = step else {
+        let Step::Check { message, origin } = step else {
             continue;
         };
-        if accepted.contains(origin) {
-            again.push(answer);
+        let before = taken.iter().find(|(taken, ..)| *taken == origin);
+        if let Some((_, first, accepted)) = before {
+            again.push(Replay {
+                accepted: *accepted,
+                relayed: *first != message,
+                answer,
+            });
         }
-        if matches!(answer, Answer::Check(Ok(_))) {
-            accepted.push(*origin);
+        if let Answer::Check(Ok(accepted)) = answer {
+            taken.push((origin, message, *accepted));
         }
     }
     again

@@ -10,7 +10,7 @@ const EXAMPLE_PRINTS: &str = "\
 server seals: 0
   under id 7 with counter 1
 client checks: 0
-  accepted, row 0 counter 1
+  accepted, row 0 counter 1, and its mark is now 1
 client checks it again: 11
   refused as a replay
 ";

@@ -2,14 +2,15 @@
 //! of results, and all lent buffers whole after every call, refused ones too.
 
 use compare::generate::{books, cards, messages};
-use compare::harness::{compare, on_bytes, same, same_items, Difference};
+use compare::harness::{compare, on_bytes, same, same_items, Difference, Tally};
 use compare::lent::{Lent, LentBook};
+use compare::met;
 use compare::random::Random;
 use compare::runs::any_id;
 use reference::book::SLOT;
-use reference::card::rows_of_card;
+use reference::card::{card_of_rows, rows_of_card};
 use reference::refusal::number_of;
-use reference::{Accepted, Book};
+use reference::{Accepted, Book, Form};
 use rimemagpie::c;
 
 #[test]
@@ -71,10 +72,17 @@ fn random_16(random: &mut Random) -> [u8; 16] {
 #[test]
 fn check() {
     let reachable = [0, 1, 2, 3, 4, 5, 6, 7, 8, 9, 10, 11, 12];
+    let mut tally = Tally::new("check, by row and counter");
     compare("check", &reachable, |random| {
         let (book, message) = book_and_message(random);
-        on_bytes(check_case(random, &book, &message), "message", &message)
+        let number = on_bytes(check_case(random, &book, &message), "message", &message)?;
+        let met = met::by_check(&book, &message, number);
+        met.into_iter().for_each(|what| tally.count(what));
+        Ok(number)
     });
+    tally.print();
+    tally.require(&met::CHECKED.map(String::from));
+    tally.forbid(&met::NOT_CHECKED.map(String::from));
 }
 
 fn check_case(random: &mut Random, book: &Book, message: &[u8]) -> Result<u8, Difference> {
@@ -89,6 +97,7 @@ fn check_case(random: &mut Random, book: &Book, message: &[u8]) -> Result<u8, Di
         lent.ids.items(),
         lent.lengths.items(),
         lent.store.items(),
+        lent.marks.items_mut(),
         lent.received.items_mut(),
         lent.sent.items(),
         lent.rows,
@@ -128,6 +137,7 @@ fn key_case(random: &mut Random, book: &Book, message: &[u8]) -> Result<u8, Diff
         lent.ids.items(),
         lent.lengths.items(),
         lent.store.items(),
+        lent.marks.items(),
         lent.received.items(),
         lent.sent.items(),
         lent.rows,
@@ -173,6 +183,7 @@ fn seal_case(random: &mut Random, book: &Book, message: &[u8]) -> Result<u8, Dif
         lent.ids.items(),
         lent.lengths.items(),
         lent.store.items(),
+        lent.marks.items(),
         lent.received.items(),
         lent.sent.items_mut(),
         lent.rows,
@@ -203,11 +214,16 @@ fn book_and_message(random: &mut Random) -> (Book, Vec<u8>) {
 
 #[test]
 fn card_read() {
+    let mut tally = Tally::new("card_read, by card");
     compare("card_read", &[0, 1, 15, 17], |random| {
         let card = cards::any(random);
         let book = room_for_card(random, &card);
-        on_bytes(card_read_case(random, &book, &card), "card", &card)
+        let number = on_bytes(card_read_case(random, &book, &card), "card", &card)?;
+        tally.count(met::by_reading(&card, number));
+        Ok(number)
     });
+    tally.print();
+    tally.require(&met::READ.map(String::from));
 }
 
 fn card_read_case(random: &mut Random, book: &Book, card: &[u8]) -> Result<u8, Difference> {
@@ -223,6 +239,7 @@ fn card_read_case(random: &mut Random, book: &Book, card: &[u8]) -> Result<u8, D
         lent.ids.items_mut(),
         lent.lengths.items_mut(),
         lent.store.items_mut(),
+        lent.marks.items_mut(),
         lent.received.items_mut(),
         lent.sent.items_mut(),
         &mut rows,
@@ -239,14 +256,17 @@ fn card_read_case(random: &mut Random, book: &Book, card: &[u8]) -> Result<u8, D
     Ok(number)
 }
 
-/// A card just read is written with the same bytes.
+/// A card just read is written as the card that moving it to the new form gives: with the same bytes
+/// where it is in that form.
 fn written_again(book: &Book, rows: usize, card: &[u8]) -> Result<(), Difference> {
-    let mut room = vec![0; card.len()];
+    let new = moved_by_library(Form::New, card)?;
+    let mut room = vec![0; new.len()];
     let mut size = 0;
     let number = c::card_write(
         &book.ids,
         &book.lengths,
         &book.store,
+        &book.marks,
         &book.received,
         &book.sent,
         rows,
@@ -254,8 +274,30 @@ fn written_again(book: &Book, rows: usize, card: &[u8]) -> Result<(), Difference
         &mut size,
     );
     same("the number on writing it again", &0, &number)?;
-    same("its size", &(card.len() as u64), &size)?;
-    same_items("the card written again", card, &room)
+    same("its size", &(new.len() as u64), &size)?;
+    same_items("the card written again", &new, &room)?;
+    match met::kind_of_card(card) {
+        "old" => Ok(()),
+        _ => same_items("the card itself", card, &room),
+    }
+}
+
+/// A card that the library moves to a form, which it must.
+fn moved_by_library(wanted: Form, card: &[u8]) -> Result<Vec<u8>, Difference> {
+    let mut room = vec![0; 5_702];
+    let mut size = 0;
+    let number = move_to(wanted, card, &mut room, &mut size);
+    same("the number on moving it", &0, &number)?;
+    room.truncate(size as usize);
+    Ok(room)
+}
+
+/// The entry that moves to a form.
+fn move_to(wanted: Form, card: &[u8], room: &mut [u8], size: &mut u64) -> u8 {
+    match wanted {
+        Form::Old => c::card_to_old(card, room, size),
+        Form::New => c::card_to_new(card, room, size),
+    }
 }
 
 /// Room to read a card into: too little, just enough, more, as much as there may be, or of sizes
@@ -301,6 +343,7 @@ fn card_write_case(random: &mut Random, book: &Book) -> Result<u8, Difference> {
         lent.ids.items(),
         lent.lengths.items(),
         lent.store.items(),
+        lent.marks.items(),
         lent.received.items(),
         lent.sent.items(),
         lent.rows,
@@ -317,16 +360,21 @@ fn card_write_case(random: &mut Random, book: &Book) -> Result<u8, Difference> {
     Ok(number)
 }
 
-/// Room for the book's card: a byte too little, just enough, more, or any. It holds anything
-/// before.
+/// Room for the book's card.
 fn room_to_write(random: &mut Random, book: &Book) -> Vec<u8> {
     let keys = book.lengths.iter().take(book.rows);
-    let size = 6 + keys.map(|length| 24 + usize::from(*length)).sum::<usize>();
+    let size = 6 + keys.map(|length| 25 + usize::from(*length)).sum::<usize>();
+    room_about(random, size)
+}
+
+/// Room for a card of this size: a byte too little, just enough, more, or any. It holds anything
+/// before.
+fn room_about(random: &mut Random, size: usize) -> Vec<u8> {
     let room = match random.below(8) {
         0..=1 => size - 1,
         2..=3 => size,
         4..=5 => size + random.within(1..=100),
-        6 => 5_638,
+        6 => random.pick(&[5_638, 5_702]),
         _ => random.within(0..=size),
     };
     random.bytes(room)
@@ -344,6 +392,7 @@ fn round_trip(random: &mut Random, book: &Book, card: &[u8]) -> Result<(), Diffe
         &mut read.ids,
         &mut read.lengths,
         &mut read.store,
+        &mut read.marks,
         &mut read.received,
         &mut read.sent,
         &mut rows,
@@ -351,6 +400,7 @@ fn round_trip(random: &mut Random, book: &Book, card: &[u8]) -> Result<(), Diffe
     same("the number on reading it back", &0, &number)?;
     same("rows read back", &(book.rows as u64), &rows)?;
     same_items("ids read back", &book.ids[..book.rows], &read.ids)?;
+    same_items("marks read back", &book.marks[..book.rows], &read.marks)?;
     same_items(
         "received read back",
         &book.received[..book.rows],
@@ -364,4 +414,73 @@ fn round_trip(random: &mut Random, book: &Book, card: &[u8]) -> Result<(), Diffe
         same_items("a slot read back", &slot, found)?;
     }
     Ok(())
+}
+
+#[test]
+fn card_to_old() {
+    compare_moves("card_to_old", Form::Old, &[0, 15, 16, 18]);
+}
+
+#[test]
+fn card_to_new() {
+    compare_moves("card_to_new", Form::New, &[0, 15, 16]);
+}
+
+/// Compares the entry that moves to a form.
+fn compare_moves(entry: &str, wanted: Form, reachable: &[u8]) {
+    let mut tally = Tally::new(&format!("{entry}, by card and room"));
+    compare(entry, reachable, |random| {
+        let card = cards::any(random);
+        let room = room_to_move(random, wanted, &card);
+        let number = on_bytes(move_case(random, wanted, &card, &room), "card", &card)?;
+        tally.count(met::by_move(&card, wanted, room.len(), number));
+        Ok(number)
+    });
+    tally.print();
+    tally.require(&met::moved(wanted));
+}
+
+/// Room for a card in a form, or now and then as much as the card itself has.
+fn room_to_move(random: &mut Random, wanted: Form, card: &[u8]) -> Vec<u8> {
+    let rows = rows_of_card(card).unwrap_or_default();
+    match random.below(8) {
+        0 => random.bytes(card.len()),
+        _ => room_about(random, card_of_rows(wanted, &rows).len()),
+    }
+}
+
+fn move_case(
+    random: &mut Random,
+    wanted: Form,
+    card: &[u8],
+    room: &[u8],
+) -> Result<u8, Difference> {
+    let mut room_after = room.to_vec();
+    let expected = reference::card_move(card, wanted, &mut room_after);
+
+    let lent_card = Lent::new(card, random);
+    let mut lent_room = Lent::new(room, random);
+    let before = random.u64();
+    let mut size = before;
+    let number = move_to(wanted, lent_card.items(), lent_room.items_mut(), &mut size);
+
+    same("the number", &number_of(&expected), &number)?;
+    let result = expected.map_or(before, |size| size as u64);
+    same("size", &result, &size)?;
+    lent_card.holds("card", card)?;
+    lent_room.holds("room", &room_after)?;
+    if let Ok(size) = expected {
+        moved_back(&room_after[..size], card)?;
+    }
+    Ok(number)
+}
+
+/// A card that was moved comes back, with the same bytes, when it is moved to the form that it had.
+fn moved_back(moved: &[u8], card: &[u8]) -> Result<(), Difference> {
+    let form = match met::kind_of_card(card) {
+        "old" => Form::Old,
+        _ => Form::New,
+    };
+    let back = moved_by_library(form, moved)?;
+    same_items("the card moved back", card, &back)
 }

@@ -7,6 +7,7 @@ use compare::generate::captures::{of_records, Record};
 use compare::generate::frames::Draft;
 use compare::generate::{books, captures, cards, frames, messages};
 use compare::harness::{cases, for_each_case, on_bytes, Difference, Tally};
+use compare::met;
 use compare::outside::{ended_within, judge_capture, repository_file, run_within, started, Folder};
 use compare::programs::{contents, fed, judged_by, judged_in_pieces, pipe, At, Disk, CARD};
 use compare::random::Random;
@@ -15,8 +16,10 @@ use compare::recordings::{
     same_lines, ACCEPTED, CAPTURE,
 };
 use reference::capture::{judged_where_a_read_fails, Order, FRAME_MOST, MAGIC};
-use reference::card::{card_of_rows, rows_of_book, Row};
-use reference::examples::{frame_of_b, recordings_of_b, refused_by_b, CARD_B, CARD_EMPTY};
+use reference::card::{card_of_rows, Form, Row};
+use reference::examples::{
+    frame_of_b, recordings_of_b, refused_by_b, CARDS_B, CARD_B_NOT_HEARD, CARD_EMPTY, NEW_CARD_B,
+};
 use std::fs::{self, File};
 use std::io::{ErrorKind, Read};
 use std::os::unix::process::ExitStatusExt;
@@ -30,18 +33,59 @@ const LIMIT: Duration = Duration::from_secs(30);
 /// The signal that tells a writer that its reader is gone.
 const SIGPIPE: i32 = 13;
 
-/// Book B's recording. Judged again it is accepted again, since nothing is written back; recorded
-/// twice it is a replay.
+/// Book B's recording, on either of its cards and on the one from before anything was accepted.
+/// Judged again it is accepted again, since nothing is written back; recorded twice it is a replay.
 #[test]
 fn recordings_written_by_hand() {
     for capture in recordings_of_b() {
-        let folder = folder_with(At::File(&CARD_B), At::File(&capture));
-        for _ in 0..2 {
-            let text = judged_by(&mut Command::new(judge_capture()), &folder);
-            assert_eq!(text, ACCEPTED);
+        for card in CARDS_B.into_iter().chain([&CARD_B_NOT_HEARD[..]]) {
+            let folder = folder_with(At::File(card), At::File(&capture));
+            for _ in 0..2 {
+                let text = judged_by(&mut Command::new(judge_capture()), &folder);
+                assert_eq!(text, ACCEPTED);
+            }
+            let twice = [&capture[..], &capture[24..]].concat();
+            let text = both(card, &twice).expect("both judge it alike");
+            assert_eq!(text, format!("{ACCEPTED}2 refused 11\n"));
         }
-        let twice = [&capture[..], &capture[24..]].concat();
-        assert_eq!(agreed(&twice), format!("{ACCEPTED}2 refused 11\n"));
+    }
+}
+
+/// What is said of messages that book B's key signed with these counters, of which some have a wrong
+/// MAC, on a card.
+fn judged_counters(card: &[u8], counters: &[(u64, bool)]) -> Vec<String> {
+    let record = |(counter, right): &(u64, bool)| {
+        let mut message = messages::signed(&[1, 2, 3, 4], 7, *counter);
+        message[240 + 32] ^= u8::from(!right);
+        Record::of(Draft::around(&message).bytes())
+    };
+    let records: Vec<Record> = counters.iter().map(record).collect();
+    let text = both(card, &of_records(Order::Little, &records)).expect("both judge it alike");
+    let said = |line: &str| line.split_once(' ').map(|(_, said)| said.to_string());
+    text.lines().filter_map(said).collect()
+}
+
+/// A row that is not heard takes the first counter that has a right MAC, 0 too; it is then heard for
+/// the records behind. On an old card every row is heard.
+#[test]
+fn a_row_not_heard() {
+    let counters = [(9, false), (0, true), (0, true), (0, false), (1, true)];
+    let said = judged_counters(&CARD_B_NOT_HEARD, &counters);
+    let first = "accepted row 0 counter 0";
+    let second = "accepted row 0 counter 1";
+    assert_eq!(
+        said,
+        ["refused 12", first, "refused 11", "refused 11", second]
+    );
+
+    let last = "accepted row 0 counter 18446744073709551615";
+    let said = judged_counters(&CARD_B_NOT_HEARD, &[(u64::MAX, true), (0, true)]);
+    assert_eq!(said, [last, "refused 11"]);
+
+    let rows = [Row::heard(7, &[1, 2, 3, 4], 0)];
+    for form in Form::BOTH {
+        let said = judged_counters(&card_of_rows(form, &rows), &[(0, true), (1, true)]);
+        assert_eq!(said, ["refused 11", second]);
     }
 }
 
@@ -78,6 +122,7 @@ fn as_the_second_implementation_judges() {
     let captures = (cases() / 25).max(3_000);
     let mut tally = Tally::new("judge_capture, lines");
     let mut orders = Tally::new("judge_capture, orders");
+    let mut kinds = Tally::new("judge_capture, cards");
     for_each_case("judge_capture", captures, |random| {
         let (card, capture) = card_and_capture(random);
         let text = on_bytes(both(&card, &capture), "capture", &capture);
@@ -85,8 +130,15 @@ fn as_the_second_implementation_judges() {
             tally.count(kind(line));
         }
         orders.count(order_of(&capture));
+        kinds.count(met::kind_of_card(&card).to_string());
         Ok(())
     });
+    kinds.print();
+    kinds.require_often(
+        &["old", "new", "not heard"].map(String::from),
+        captures / 20,
+    );
+    kinds.require(&["no rows", "no card"].map(String::from));
     orders.print();
     orders.require_often(&Order::BOTH.map(|order| format!("{order:?}")), captures / 3);
     tally.print();
@@ -103,12 +155,12 @@ fn order_of(capture: &[u8]) -> String {
     order.map_or("neither".to_string(), |order| format!("{order:?}"))
 }
 
-/// A sound book's card and a capture for it; one card in twenty is any card.
+/// A sound book's card, in either form, and a capture for it; one card in twenty is any card.
 fn card_and_capture(random: &mut Random) -> (Vec<u8>, Vec<u8>) {
     let book = books::sound_with_a_row(random);
     let card = match random.below(20) {
         0 => cards::any(random),
-        _ => card_of_rows(&rows_of_book(&book)),
+        _ => cards::of_book(random, &book),
     };
     (card, captures::any(random, &book))
 }
@@ -157,7 +209,7 @@ fn large_frames() {
             .map(Record::of)
             .collect();
         let order = random.pick(&Order::BOTH);
-        both(&CARD_B, &of_records(order, &records)).map(|_| ())
+        both(&NEW_CARD_B, &of_records(order, &records)).map(|_| ())
     });
 }
 
@@ -202,7 +254,7 @@ fn very_many_records_of_empty_frames() {
 #[test]
 fn rows_and_counters_are_written_in_full() {
     let rows: Vec<Row> = (0..64).map(|id| Row::new(id, &[9; 64])).collect();
-    let card = card_of_rows(&rows);
+    let card = card_of_rows(Form::New, &rows);
     let counters = u64::MAX - 23..=u64::MAX;
     let frames = counters.flat_map(|counter| {
         let message = move |id| messages::signed(&[9; 64], id, counter);
@@ -231,8 +283,10 @@ fn captures_without_a_record() {
 #[test]
 fn unreadable_card() {
     let [capture, _] = recordings_of_b();
-    let longer = [&CARD_B[..], &[0]].concat();
-    let rows_65 = cards::of_65_rows();
+    let longer = [&NEW_CARD_B[..], &[0]].concat();
+    let rows_65 = Form::BOTH.map(cards::of_65_rows);
+    let wrongly_marked = cards::wrongly_marked();
+    let refused = rows_65.iter().chain(&wrongly_marked);
     let (largest, above) = (vec![0; 65_535], vec![0; 65_536]);
     let cards = [
         At::Nothing,
@@ -241,11 +295,11 @@ fn unreadable_card() {
         At::File(&[]),
         At::File(&longer),
         At::Link(&longer),
-        At::File(&rows_65),
         At::File(&largest),
         At::File(&above),
     ];
-    for card in cards {
+    let refused = refused.map(|card| At::File(card));
+    for card in cards.into_iter().chain(refused) {
         for capture in [At::File(&capture), At::Nothing, At::Folder] {
             assert_eq!(judged(card, capture), "unreadable\n");
         }
@@ -255,7 +309,7 @@ fn unreadable_card() {
 #[test]
 fn unreadable_capture() {
     for capture in [At::Nothing, At::LooseLink, At::Folder, At::File(&[])] {
-        assert_eq!(judged(At::File(&CARD_B), capture), "unreadable\n");
+        assert_eq!(judged(At::File(&NEW_CARD_B), capture), "unreadable\n");
     }
 }
 
@@ -270,7 +324,7 @@ fn a_card_without_rows() {
 #[test]
 fn links_are_followed() {
     for capture in recordings_of_b() {
-        let text = judged(At::Link(&CARD_B), At::Link(&capture));
+        let text = judged(At::Link(&NEW_CARD_B), At::Link(&capture));
         assert_eq!(text, ACCEPTED);
     }
 }
@@ -287,7 +341,7 @@ fn files_without_end() {
     let [capture, _] = recordings_of_b();
     let endless_card = folder_with(At::Endless, At::File(&capture));
     assert_eq!(judged_within(&endless_card), "unreadable\n");
-    let endless_capture = folder_with(At::File(&CARD_B), At::Endless);
+    let endless_capture = folder_with(At::File(&NEW_CARD_B), At::Endless);
     assert_eq!(judged_within(&endless_capture), "unreadable\n");
 }
 
@@ -295,7 +349,7 @@ fn files_without_end() {
 /// writer, whose opening would never end.
 #[test]
 fn the_capture_is_opened_behind_the_card() {
-    let longer = [&CARD_B[..], &[0]].concat();
+    let longer = [&NEW_CARD_B[..], &[0]].concat();
     let above = vec![0; 65_536];
     let cards = [
         At::Nothing,
@@ -325,7 +379,7 @@ fn both_failing(disk: &Disk, card: &[u8], capture: &[u8], behind: usize) -> Resu
 fn a_read_of_the_capture_that_fails() {
     let disk = Disk::new();
     let fails_behind = |capture: &[u8], behind: usize| {
-        let same = both_failing(&disk, &CARD_B, capture, behind);
+        let same = both_failing(&disk, &NEW_CARD_B, capture, behind);
         same.unwrap_or_else(|difference| panic!("behind {behind} bytes: {difference}"));
     };
     for order in Order::BOTH {
@@ -341,7 +395,7 @@ fn a_read_of_the_capture_that_fails() {
 /// A folder with book B's recording.
 fn folder_of_b() -> Folder {
     let [capture, _] = recordings_of_b();
-    folder_with(At::File(&CARD_B), At::File(&capture))
+    folder_with(At::File(&NEW_CARD_B), At::File(&capture))
 }
 
 /// A read that fails makes the card unreadable, though the bytes read before are the whole of it.
@@ -353,7 +407,7 @@ fn a_read_of_the_card_that_fails() {
         judged_by(&mut disk.failing(&judge_capture(), name, behind), &folder)
     };
     assert_eq!(judged_failing("another file", 0), ACCEPTED);
-    for behind in 0..=CARD_B.len() {
+    for behind in 0..=NEW_CARD_B.len() {
         assert_eq!(judged_failing(CARD, behind), "unreadable\n");
     }
 }
@@ -366,7 +420,7 @@ fn reads_that_give_few_bytes() {
     let slow = |piece: usize| disk.slow(&judge_capture(), CAPTURE, piece);
     assert_eq!(judged_by(&mut slow(0), &folder_of_b()), "unreadable\n");
     let read_in = |capture: &[u8], piece: usize| {
-        let text = both_by(&mut slow(piece), &CARD_B, capture);
+        let text = both_by(&mut slow(piece), &NEW_CARD_B, capture);
         text.unwrap_or_else(|difference| panic!("{piece} bytes to a read: {difference}"));
     };
     let mut frame = frame_of_b();
@@ -402,7 +456,7 @@ fn random_captures_from_a_slow_or_broken_disk() {
 
 /// The text on book B, with a pipe in place of the capture.
 fn judged_from_pipe(pieces: &[&[u8]]) -> String {
-    let folder = folder_with(At::File(&CARD_B), At::Nothing);
+    let folder = folder_with(At::File(&NEW_CARD_B), At::Nothing);
     judged_in_pieces(&judge_capture(), &folder, CAPTURE, pieces)
 }
 
@@ -427,7 +481,7 @@ fn a_capture_in_pieces() {
         .collect();
     let capture = of_records(Order::Big, &records);
     let pieces: Vec<&[u8]> = capture.chunks(40_000).collect();
-    let expected = reference::capture::judged(Some(&CARD_B), Some(&capture));
+    let expected = reference::capture::judged(Some(&NEW_CARD_B), Some(&capture));
     assert_eq!(judged_from_pipe(&pieces), expected);
 }
 
@@ -435,7 +489,7 @@ fn a_capture_in_pieces() {
 fn a_card_in_pieces() {
     let [capture, _] = recordings_of_b();
     let folder = folder_with(At::Nothing, At::File(&capture));
-    let pieces = [&CARD_B[..3], &CARD_B[3..]];
+    let pieces = [&NEW_CARD_B[..3], &NEW_CARD_B[3..]];
     let text = judged_in_pieces(&judge_capture(), &folder, CARD, &pieces);
     assert_eq!(text, ACCEPTED);
 }
@@ -451,7 +505,7 @@ fn writes_that_take_few_bytes() {
     assert_eq!(text, "");
     for (count, piece) in [(300, 1), (300, 7), (6_000, 4_096), (6_000, 65_535)] {
         let capture = right_capture(Order::Little, count);
-        let text = both_by(&mut taking(piece), &CARD_B, &capture);
+        let text = both_by(&mut taking(piece), &NEW_CARD_B, &capture);
         text.unwrap_or_else(|difference| panic!("{piece} bytes to a write: {difference}"));
     }
 }
@@ -460,8 +514,8 @@ fn writes_that_take_few_bytes() {
 /// and these lines.
 fn many_right_records() -> (Folder, String) {
     let capture = right_capture(Order::Little, 6_000);
-    let folder = folder_with(At::File(&CARD_B), At::File(&capture));
-    let lines = reference::capture::judged(Some(&CARD_B), Some(&capture));
+    let folder = folder_with(At::File(&NEW_CARD_B), At::File(&capture));
+    let lines = reference::capture::judged(Some(&NEW_CARD_B), Some(&capture));
     (folder, lines)
 }
 
@@ -515,7 +569,7 @@ fn ends_unread(mut command: Command, output: Stdio, read: usize, end: ExitStatus
     ends_in(&folder, &mut command, &lines[..read], end);
     assert!(contents(&folder) == before, "{command:?} changed a file");
 
-    let endless = folder_with(At::File(&CARD_B), At::Nothing);
+    let endless = folder_with(At::File(&NEW_CARD_B), At::Nothing);
     let failed = fed(pipe(&endless, CAPTURE), endless_capture(Order::Little));
     ends_in(&endless, &mut command, &lines[..read], end);
     let broken = Ok(Some(ErrorKind::BrokenPipe));

@@ -1,11 +1,12 @@
-//! One name, one meaning: the refusals and the entries' parameters have the same names and numbers
-//! in Rattle, in C, in Rust and in the rules. The files are read as text, a line at a time.
+//! One name, one meaning: the refusals, the marks and the entries' parameters have the same names and
+//! numbers in Rattle, in C, in Rust and in the rules, and the book's parts the same order. The files
+//! are read as text, a line at a time.
 
 use compare::outside::repository_file;
 use rimemagpie::Refusal;
 use std::fs;
 
-/// A refusal's name and number.
+/// The name and number of a refusal or of a mark.
 type Named = (String, u8);
 
 fn text_of(path: &str) -> String {
@@ -13,8 +14,8 @@ fn text_of(path: &str) -> String {
     fs::read_to_string(&path).unwrap_or_else(|error| panic!("{}: {error}", path.display()))
 }
 
-/// The lines of a file that say a refusal: `start`, a name, `middle`, a number, `end`.
-fn refusals_in(path: &str, [start, middle, end]: [&str; 3]) -> Vec<Named> {
+/// The lines of a text that name a number: `start`, a name, `middle`, the number, `end`.
+fn named_in(text: &str, [start, middle, end]: [&str; 3]) -> Vec<Named> {
     let named = |line: &str| {
         let (name, rest) = line.trim().strip_prefix(start)?.split_once(middle)?;
         let digits = rest.find(|c: char| !c.is_ascii_digit());
@@ -22,7 +23,25 @@ fn refusals_in(path: &str, [start, middle, end]: [&str; 3]) -> Vec<Named> {
         rest.starts_with(end)
             .then(|| Some((name.to_string(), number.parse().ok()?)))?
     };
-    text_of(path).lines().filter_map(named).collect()
+    text.lines().filter_map(named).collect()
+}
+
+/// The lines of a file that say a refusal.
+fn refusals_in(path: &str, parts: [&str; 3]) -> Vec<Named> {
+    named_in(&text_of(path), parts)
+}
+
+/// How the header names a number.
+const IN_HEADER: [&str; 3] = ["RIMEMAGPIE_", " = ", ""];
+
+/// The names and numbers of an enum of the header.
+fn enum_in_header(name: &str) -> Vec<Named> {
+    let header = text_of("include/rimemagpie.h");
+    let (_, behind) = header
+        .split_once(&format!("enum {name} {{"))
+        .expect("the header has the enum");
+    let (inside, _) = behind.split_once("};").expect("an enum has an end");
+    named_in(inside, IN_HEADER)
 }
 
 /// `UNSOUND_BOOK` as `UnsoundBook`.
@@ -50,7 +69,7 @@ fn refusals_are_the_same_in_the_specification() {
 
 #[test]
 fn refusals_are_the_same_in_the_header() {
-    let mut declared = refusals_in("include/rimemagpie.h", ["RIMEMAGPIE_", " = ", ""]);
+    let mut declared = enum_in_header("rimemagpie_number");
     for (name, _) in &mut declared {
         *name = in_camel_case(name);
     }
@@ -86,6 +105,29 @@ fn refusals_are_the_same_in_the_documents() {
     }
 }
 
+/// The marks of a file: its constants of a byte.
+fn marks_in(path: &str) -> Vec<Named> {
+    named_in(&text_of(path), ["pub const ", ": u8 = ", ";"])
+}
+
+#[test]
+fn marks_are_the_same_in_rattle_c_and_rust() {
+    let marks = marks_in("crates/key_book/src/lib.rt");
+    assert_eq!(marks.len(), 2);
+    assert_eq!(enum_in_header("rimemagpie_mark"), marks);
+    for path in ["rust/src/lib.rs", "tests/reference/src/book.rs"] {
+        assert_eq!(marks_in(path), marks, "{path}");
+    }
+}
+
+/// The header numbers nothing but answers and marks.
+#[test]
+fn each_number_of_the_header_is_an_answer_or_a_mark() {
+    let all = named_in(&text_of("include/rimemagpie.h"), IN_HEADER);
+    let enums = ["rimemagpie_number", "rimemagpie_mark"];
+    assert_eq!(all, enums.map(enum_in_header).concat());
+}
+
 /// Every entry with its parameters' names, in the order of the file: what follows `start` up to
 /// `end`, each parameter reduced to its name.
 fn entries_in(text: &str, start: &str, end: &str, name_of: fn(&str) -> &str) -> Vec<Vec<String>> {
@@ -119,7 +161,7 @@ fn parameters_are_the_same_in_rattle_c_and_rust() {
         ") -> u8",
         name_in_rust,
     );
-    assert_eq!(entries.len(), 7);
+    assert_eq!(entries.len(), 9);
     let in_order = |mut entries: Vec<Vec<String>>| {
         entries.sort();
         entries
@@ -133,4 +175,50 @@ fn parameters_are_the_same_in_rattle_c_and_rust() {
     assert_eq!(in_order(declared), entries);
     let safe = entries_in(&wrapper, "\npub fn ", ") -> u8", name_in_rust);
     assert_eq!(in_order(safe), entries);
+}
+
+/// The book's parts, in the order of the rules' table: `| `ids` | ..` under its heading.
+fn parts_in_rules() -> Vec<String> {
+    let rules = text_of("docs/RULES.md");
+    let (_, table) = rules
+        .split_once("| Name | Holds |")
+        .expect("the rules have a table of the book's parts");
+    let name = |line: &str| Some(line.strip_prefix("| `")?.split_once('`')?.0.to_string());
+    let rows = table.lines().skip(2).map_while(name);
+    rows.collect()
+}
+
+/// The fields of a `pub struct Book`.
+fn fields_of_book(path: &str) -> Vec<String> {
+    let text = text_of(path);
+    let (_, fields) = text.split_once("pub struct Book").expect("there is a book");
+    let lines = fields.lines().take_while(|line| *line != "}");
+    let name = |line: &str| {
+        Some(
+            line.trim()
+                .strip_prefix("pub ")?
+                .split_once(':')?
+                .0
+                .to_string(),
+        )
+    };
+    lines.filter_map(name).collect()
+}
+
+#[test]
+fn the_book_has_the_same_parts_in_the_same_order() {
+    let parts = parts_in_rules();
+    assert_eq!(parts.len(), 7);
+    for path in ["rust/src/lib.rs", "tests/reference/src/book.rs"] {
+        assert_eq!(fields_of_book(path), parts, "{path}");
+    }
+    let header = text_of("include/rimemagpie.h");
+    let mut lent = 0;
+    for entry in entries_in(&header, "uint8_t rimemagpie_", ");", name_in_c) {
+        if let Some(at) = entry.iter().position(|name| *name == parts[0]) {
+            assert_eq!(entry[at..at + parts.len()], parts, "{}", entry[0]);
+            lent += 1;
+        }
+    }
+    assert_eq!(lent, 5);
 }

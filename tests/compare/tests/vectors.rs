@@ -3,11 +3,11 @@
 
 use compare::runs::lend;
 use reference::examples::{
-    accepted_by_b, accepted_by_b_with_82, book_b, hex, refused_by_b, rfc_2202, CARD_B, CARD_EMPTY,
-    RFC_1321,
+    accepted_by_b, accepted_by_b_with_82, book_b, book_b_not_heard, hex, refused_by_b, rfc_2202,
+    CARDS_B, CARD_B_NOT_HEARD, CARD_EMPTY, NEW_CARD_B, OLD_CARD_B, RFC_1321,
 };
 use reference::Book;
-use rimemagpie::{c, Accepted, Refusal};
+use rimemagpie::{c, card_move, Accepted, Form, Refusal};
 
 #[test]
 fn rfc_1321_test_suite() {
@@ -32,17 +32,59 @@ fn rfc_2202_test_cases() {
     }
 }
 
-#[test]
-fn example_1_card_of_b() {
-    let mut room = [0; 34];
-    assert_eq!(lend(&mut book_b()).card_write(&mut room), Ok(34));
-    assert_eq!(room, CARD_B);
+/// The book on a card of one row.
+fn read(card: &[u8]) -> Book {
+    let mut book = Book::with_room(1);
+    let mut lent = lend(&mut book);
+    assert_eq!(lent.card_read(card), Ok(()));
+    book.rows = lent.rows;
+    book
+}
 
-    let mut read = Book::with_room(1);
-    let mut lent = lend(&mut read);
-    assert_eq!(lent.card_read(&CARD_B), Ok(()));
-    read.rows = lent.rows;
-    assert_eq!(read, book_b());
+#[test]
+fn example_1_cards_of_b() {
+    let mut room = [0; 35];
+    assert_eq!(lend(&mut book_b()).card_write(&mut room), Ok(35));
+    assert_eq!(room, NEW_CARD_B);
+    for card in CARDS_B {
+        assert_eq!(read(card), book_b());
+    }
+}
+
+#[test]
+fn example_1_moved() {
+    for card in CARDS_B {
+        let (mut old, mut new) = ([0; 34], [0; 35]);
+        assert_eq!(card_move(card, Form::Old, &mut old), Ok(34));
+        assert_eq!(old, OLD_CARD_B);
+        assert_eq!(card_move(card, Form::New, &mut new), Ok(35));
+        assert_eq!(new, NEW_CARD_B);
+    }
+}
+
+/// A move that is refused, which leaves a room of so many bytes as it was.
+fn move_refused(card: &[u8], wanted: Form, room: usize) -> Refusal {
+    let mut lent = vec![9; room];
+    let answer = card_move(card, wanted, &mut lent);
+    assert_eq!(lent, vec![9; room]);
+    answer.expect_err("the move is refused")
+}
+
+/// Book B before anything was accepted: its card is read, and has no old form.
+#[test]
+fn example_1_not_heard() {
+    let mut room = [0; 35];
+    let size = lend(&mut book_b_not_heard()).card_write(&mut room);
+    assert_eq!((size, room), (Ok(35), CARD_B_NOT_HEARD));
+    assert_eq!(read(&CARD_B_NOT_HEARD), book_b_not_heard());
+    for (room, expected) in [
+        (33, Refusal::NoRoomForCard),
+        (34, Refusal::RowNotHeard),
+        (35, Refusal::RowNotHeard),
+    ] {
+        let refused = move_refused(&CARD_B_NOT_HEARD, Form::Old, room);
+        assert_eq!(refused, expected);
+    }
 }
 
 #[test]
@@ -55,6 +97,12 @@ fn example_2_empty_card() {
     assert_eq!(lent.rows, 1);
     assert_eq!(lent.card_read(&CARD_EMPTY), Ok(()));
     assert_eq!(lent.rows, 0);
+    for form in [Form::Old, Form::New] {
+        let mut room = [0; 6];
+        assert_eq!(card_move(&CARD_EMPTY, form, &mut room), Ok(6));
+        assert_eq!(room, CARD_EMPTY);
+        assert_eq!(move_refused(&longer, form, 7), Refusal::MalformedCard);
+    }
 }
 
 #[test]
@@ -89,11 +137,12 @@ fn example_9_put_right() {
     };
     assert_eq!(lend(&mut book).check(&accepted_by_b()), Ok(accepted));
     assert_eq!(book.received, [11]);
+    assert_eq!(book.marks, [1]);
 }
 
 #[test]
 fn example_10_key_lengths() {
-    for (length, expected) in [(64, Ok(34 + 60)), (65, Err(Refusal::UnsoundBook))] {
+    for (length, expected) in [(64, Ok(35 + 60)), (65, Err(Refusal::UnsoundBook))] {
         let mut book = book_b();
         book.lengths[0] = length;
         let answer = lend(&mut book).card_write(&mut [0; 200]);

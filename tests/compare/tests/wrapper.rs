@@ -7,7 +7,7 @@ use compare::random::Random;
 use compare::runs::{any_id, lend};
 use reference::refusal::number_of;
 use reference::Book;
-use rimemagpie::Refusal;
+use rimemagpie::{Form, Refusal};
 
 /// The C interface has the whole number of cases; here a tenth is enough.
 fn some_cases() -> u64 {
@@ -19,7 +19,7 @@ fn a_printed_refusal_says_number_and_fault() {
     let words = Refusal::Replay.to_string();
     assert_eq!(
         words,
-        "refused 11: the counter is not above the row's received one"
+        "refused 11: the row is heard and the counter is not above its received one"
     );
 }
 
@@ -109,6 +109,38 @@ fn cards_read_and_written() {
         same_written(&book)?;
         same_read(&book, &cards::any(random))
     });
+}
+
+#[test]
+fn cards_moved() {
+    for_each_case("wrapper move", some_cases(), |random| {
+        let card = cards::any(random);
+        same_moved(&card, reference::Form::Old, Form::Old)?;
+        same_moved(&card, reference::Form::New, Form::New)
+    });
+}
+
+fn same_moved(card: &[u8], expected: reference::Form, wanted: Form) -> Result<(), Difference> {
+    let (mut room_after, mut room) = ([7; 1_000], [7; 1_000]);
+    let expected = reference::card_move(card, expected, &mut room_after);
+    let found = rimemagpie::card_move(card, wanted, &mut room);
+    same("the size", &numbered_reference(expected), &numbered(found))?;
+    same("the card", &room_after, &room)
+}
+
+/// The room that the wrapper names as enough for any card is just enough for the largest.
+#[test]
+fn the_largest_card() {
+    let mut book = Book::with_room(64);
+    book.ids = (0..64).collect();
+    book.lengths.fill(64);
+    book.rows = 64;
+    let mut room = [0; rimemagpie::CARD_MOST];
+    let lent = lend(&mut book);
+    assert_eq!(lent.card_write(&mut room), Ok(room.len()));
+    let short = room.len() - 1;
+    let refused = lent.card_write(&mut room[..short]);
+    assert_eq!(refused, Err(Refusal::NoRoomForCard));
 }
 
 fn same_written(book: &Book) -> Result<(), Difference> {

@@ -1,7 +1,7 @@
 //! Check, key of a message and seal (docs/RULES.md, 'Check', 'Key of a message' and 'Seal';
 //! RFC 3118, section 5).
 
-use crate::book::Book;
+use crate::book::{Book, HEARD};
 use crate::hmac::hmac_md5;
 use crate::message::{covered_image, full_form, number, Shape};
 use crate::refusal::Refusal;
@@ -15,11 +15,11 @@ pub struct Accepted {
 }
 
 /// Checks a message: numbers 1 to 12, the replay field before the MAC. Accepted, its counter is
-/// stored.
+/// stored and its row is heard. A row not heard takes any counter.
 pub fn check(book: &mut Book, message: &[u8]) -> Result<Accepted, Refusal> {
     let (shape, row) = named_row(book, message)?;
     let counter = number(&message[shape.counter()]);
-    if counter <= book.received[row] {
+    if book.is_heard(row) && counter <= book.received[row] {
         return Err(Refusal::Replay);
     }
     let mac = hmac_md5(book.key(row), &covered_image(message, &shape));
@@ -27,6 +27,7 @@ pub fn check(book: &mut Book, message: &[u8]) -> Result<Accepted, Refusal> {
         return Err(Refusal::WrongMac);
     }
     book.received[row] = counter;
+    book.marks[row] = HEARD;
     Ok(Accepted { row, counter })
 }
 
@@ -78,10 +79,19 @@ fn named_row(book: &Book, message: &[u8]) -> Result<(Shape, usize), Refusal> {
 #[cfg(test)]
 mod tests {
     use super::*;
-    use crate::examples::{book_b, full_option_90, message_with};
+    use crate::book::NOT_HEARD;
+    use crate::examples::{book_b, book_b_not_heard, full_option_90, message_with};
 
     fn plain() -> Vec<u8> {
         message_with(&[&full_option_90(0, 0)[..], &[255]].concat())
+    }
+
+    /// A message with this counter and the right MAC under book B's key.
+    fn signed(counter: u64) -> Vec<u8> {
+        let mut message = plain();
+        let shape = full_form(&message).unwrap();
+        sign(&mut message, &shape, &[1, 2, 3, 4], 7, counter);
+        message
     }
 
     #[test]
@@ -139,12 +149,69 @@ mod tests {
 
     #[test]
     fn the_last_counter_is_accepted_and_then_no_other() {
+        for mut book in [book_b(), book_b_not_heard()] {
+            let last = signed(u64::MAX);
+            assert!(check(&mut book, &last).is_ok());
+            for counter in [0, 1, u64::MAX - 1, u64::MAX] {
+                let answer = check(&mut book, &signed(counter));
+                assert_eq!(answer, Err(Refusal::Replay));
+            }
+        }
+    }
+
+    /// A row not heard takes any counter once; then only higher ones.
+    #[test]
+    fn a_row_not_heard_takes_any_counter() {
+        for counter in [0, 1, 2, 1 << 32, u64::MAX - 1, u64::MAX] {
+            let mut book = book_b_not_heard();
+            let message = signed(counter);
+            let accepted = Accepted { row: 0, counter };
+            assert_eq!(check(&mut book, &message), Ok(accepted));
+            let mut expected = book_b();
+            expected.received[0] = counter;
+            assert_eq!(book, expected);
+            assert_eq!(check(&mut book, &message), Err(Refusal::Replay));
+            assert_eq!(book, expected);
+            if let Some(next) = counter.checked_add(1) {
+                assert!(check(&mut book, &signed(next)).is_ok());
+            }
+        }
+    }
+
+    /// Where the received counter is 0 the mark decides on a message with counter 0.
+    #[test]
+    fn a_heard_row_refuses_the_counter_0() {
         let mut book = book_b();
-        let mut last = plain();
-        let shape = full_form(&last).unwrap();
-        sign(&mut last, &shape, &[1, 2, 3, 4], 7, u64::MAX);
-        assert!(check(&mut book, &last).is_ok());
-        assert_eq!(check(&mut book, &last), Err(Refusal::Replay));
+        book.received[0] = 0;
+        assert_eq!(check(&mut book, &signed(0)), Err(Refusal::Replay));
+        book.marks[0] = NOT_HEARD;
+        assert!(check(&mut book, &signed(0)).is_ok());
+    }
+
+    /// A wrong MAC is refused with 12 where the row is not heard, whatever the counter, and leaves it
+    /// not heard.
+    #[test]
+    fn the_mac_decides_where_the_row_is_not_heard() {
+        for counter in [0, 5, u64::MAX] {
+            let mut book = book_b_not_heard();
+            let mut message = signed(counter);
+            message[240 + 32] ^= 1;
+            assert_eq!(check(&mut book, &message), Err(Refusal::WrongMac));
+            assert_eq!(book, book_b_not_heard());
+        }
+    }
+
+    /// A seal and the key of a message don't look at the mark, and leave it.
+    #[test]
+    fn a_seal_and_a_key_leave_the_mark() {
+        for mut book in [book_b(), book_b_not_heard()] {
+            let mut expected = book.clone();
+            expected.sent[0] = 4;
+            let mut message = plain();
+            assert_eq!(seal(&mut book, 7, &mut message), Ok(4));
+            assert_eq!(key_of_message(&book, &message), Ok(0..4));
+            assert_eq!(book, expected);
+        }
     }
 
     #[test]

@@ -7,6 +7,10 @@ pub const ROWS_MOST: usize = 64;
 pub const SLOT: usize = 64;
 pub const ROOM_MOST: usize = 1_024;
 
+/// A row's mark: whether a message was accepted under its secret.
+pub const NOT_HEARD: u8 = 0;
+pub const HEARD: u8 = 1;
+
 /// The lent parts, of any sizes. Of each, the rows from `rows` on affect no answer, nor do slot
 /// bytes past a key.
 #[derive(Clone, Debug, PartialEq, Eq, Default)]
@@ -14,6 +18,7 @@ pub struct Book {
     pub ids: Vec<u32>,
     pub lengths: Vec<u8>,
     pub store: Vec<u8>,
+    pub marks: Vec<u8>,
     pub received: Vec<u64>,
     pub sent: Vec<u64>,
     pub rows: usize,
@@ -26,6 +31,7 @@ impl Book {
             ids: vec![0; n],
             lengths: vec![0; n],
             store: vec![0; SLOT * n],
+            marks: vec![NOT_HEARD; n],
             received: vec![0; n],
             sent: vec![0; n],
             rows: 0,
@@ -38,6 +44,7 @@ impl Book {
         n <= ROOM_MOST
             && self.lengths.len() == n
             && self.store.len() == SLOT * n
+            && self.marks.len() == n
             && self.received.len() == n
             && self.sent.len() == n
     }
@@ -51,11 +58,17 @@ impl Book {
             && self.lengths[..self.rows]
                 .iter()
                 .all(|length| (1..=SLOT).contains(&usize::from(*length)))
+            && (0..self.rows).all(|row| goes_with(self.marks[row], self.received[row]))
     }
 
     /// The row of an id, among those in use.
     pub fn row_of(&self, id: u32) -> Option<usize> {
         (0..self.rows).find(|row| self.ids[*row] == id)
+    }
+
+    /// Whether a message was accepted under a row's secret, in a sound book.
+    pub fn is_heard(&self, row: usize) -> bool {
+        self.marks[row] == HEARD
     }
 
     /// Where in the key store a row's key is.
@@ -66,6 +79,15 @@ impl Book {
     /// A row's key.
     pub fn key(&self, row: usize) -> &[u8] {
         &self.store[self.key_place(row)]
+    }
+}
+
+/// Whether a mark is one, and goes with the received counter: that of a row not heard is 0.
+pub fn goes_with(mark: u8, received: u64) -> bool {
+    match mark {
+        NOT_HEARD => received == 0,
+        HEARD => true,
+        _ => false,
     }
 }
 
@@ -92,6 +114,8 @@ mod tests {
         assert!(!sound_after(|b| b.ids.push(9)));
         assert!(!sound_after(|b| b.lengths.push(9)));
         assert!(!sound_after(|b| b.store.push(9)));
+        assert!(!sound_after(|b| b.marks.push(1)));
+        assert!(!sound_after(|b| b.marks.clear()));
         assert!(!sound_after(|b| b.received.push(9)));
         assert!(!sound_after(|b| b.sent.push(9)));
     }
@@ -108,11 +132,38 @@ mod tests {
         assert!(!ascend_strictly(&[3, 3]) && !ascend_strictly(&[1, 3, 2]));
     }
 
+    #[test]
+    fn marks_and_the_counters_that_go_with_them() {
+        let with = |mark: u8, received: u64| {
+            sound_after(|b| (b.marks[0], b.received[0]) = (mark, received))
+        };
+        for received in [0, 1, 10, u64::MAX] {
+            assert!(with(HEARD, received));
+            assert_eq!(with(NOT_HEARD, received), received == 0);
+            for mark in 2..=255 {
+                assert!(!with(mark, received));
+            }
+        }
+    }
+
+    /// Marks and received counters of rows that are not in use hold anything.
+    #[test]
+    fn rows_not_in_use_may_hold_anything() {
+        for (mark, received) in [(0, 0), (0, 5), (1, 5), (2, 0), (255, u64::MAX)] {
+            let mut book = room_for(3, 2);
+            (book.marks[2], book.received[2]) = (mark, received);
+            assert!(book.is_sound());
+            book.rows = 3;
+            assert_eq!(book.is_sound(), goes_with(mark, received));
+        }
+    }
+
     fn room_for(n: usize, rows: usize) -> Book {
         Book {
             ids: (0..n as u32).collect(),
             lengths: vec![1; n],
             store: vec![0; SLOT * n],
+            marks: vec![NOT_HEARD; n],
             received: vec![0; n],
             sent: vec![0; n],
             rows,

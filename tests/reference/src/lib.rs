@@ -22,7 +22,7 @@ pub mod relay;
 
 pub use auth::{check, key_of_message, seal, Accepted};
 pub use book::Book;
-pub use card::{card_read, card_write};
+pub use card::{card_move, card_read, card_write, Form};
 pub use hmac::hmac;
 pub use md5::digest;
 pub use refusal::Refusal;

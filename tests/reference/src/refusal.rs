@@ -24,7 +24,7 @@ pub enum Refusal {
     RequestForm = 9,
     /// The secret id has no row.
     UnknownSecret = 10,
-    /// The counter is not above the row's received one.
+    /// The row is heard and the counter is not above its received one.
     Replay = 11,
     /// The MAC differs.
     WrongMac = 12,
@@ -38,6 +38,8 @@ pub enum Refusal {
     NoRoomForCard = 16,
     /// The card has more rows than the lent room.
     NoRoomForRows = 17,
+    /// The old form of a card is wanted and a row is not heard.
+    RowNotHeard = 18,
 }
 
 impl Refusal {

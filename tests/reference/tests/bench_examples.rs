@@ -2,21 +2,64 @@
 //! program is run by the tests beside the library.)
 
 use reference::examples::{
-    accepted_by_b, accepted_by_b_with_82, book_b, refused_by_b, CARD_B, CARD_EMPTY,
+    accepted_by_b, accepted_by_b_with_82, book_b, book_b_not_heard, refused_by_b, CARDS_B,
+    CARD_B_NOT_HEARD, CARD_EMPTY, NEW_CARD_B, OLD_CARD_B,
 };
 use reference::refusal::number_of;
-use reference::{card_read, card_write, check, Accepted, Book, Refusal};
+use reference::{card_move, card_read, card_write, check, Accepted, Book, Form, Refusal};
 
 #[test]
-fn example_1_card_of_b() {
-    let mut room = [0; 34];
-    assert_eq!(card_write(&book_b(), &mut room), Ok(34));
-    assert_eq!(room, CARD_B);
+fn example_1_cards_of_b() {
+    let mut room = [0; 35];
+    assert_eq!(card_write(&book_b(), &mut room), Ok(35));
+    assert_eq!(room, NEW_CARD_B);
+    for card in CARDS_B {
+        assert_eq!(read(card), book_b());
+    }
+}
 
-    let mut read = Book::with_room(1);
-    assert_eq!(card_read(&CARD_B, &mut read), Ok(1));
-    read.rows = 1;
-    assert_eq!(read, book_b());
+/// The book on a card of one row.
+fn read(card: &[u8]) -> Book {
+    let mut book = Book::with_room(1);
+    assert_eq!(card_read(card, &mut book), Ok(1));
+    book.rows = 1;
+    book
+}
+
+#[test]
+fn example_1_moved() {
+    for card in CARDS_B {
+        let (mut old, mut new) = ([0; 34], [0; 35]);
+        assert_eq!(card_move(card, Form::Old, &mut old), Ok(34));
+        assert_eq!(old, OLD_CARD_B);
+        assert_eq!(card_move(card, Form::New, &mut new), Ok(35));
+        assert_eq!(new, NEW_CARD_B);
+    }
+}
+
+/// A move that is refused, which leaves a room of so many bytes as it was.
+fn move_refused(card: &[u8], wanted: Form, room: usize) -> Refusal {
+    let mut lent = vec![9; room];
+    let answer = card_move(card, wanted, &mut lent);
+    assert_eq!(lent, vec![9; room]);
+    answer.expect_err("the move is refused")
+}
+
+/// Book B before anything was accepted: its card is read, and has no old form.
+#[test]
+fn example_1_not_heard() {
+    let mut room = [0; 35];
+    assert_eq!(card_write(&book_b_not_heard(), &mut room), Ok(35));
+    assert_eq!(room, CARD_B_NOT_HEARD);
+    assert_eq!(read(&CARD_B_NOT_HEARD), book_b_not_heard());
+    for (room, expected) in [
+        (33, Refusal::NoRoomForCard),
+        (34, Refusal::RowNotHeard),
+        (35, Refusal::RowNotHeard),
+    ] {
+        let refused = move_refused(&CARD_B_NOT_HEARD, Form::Old, room);
+        assert_eq!(refused, expected);
+    }
 }
 
 #[test]
@@ -25,6 +68,12 @@ fn example_2_empty_card() {
     let longer = [&CARD_EMPTY[..], &[0]].concat();
     let answer = card_read(&longer, &mut Book::with_room(0));
     assert_eq!(answer, Err(Refusal::MalformedCard));
+    for form in Form::BOTH {
+        let mut room = [0; 6];
+        assert_eq!(card_move(&CARD_EMPTY, form, &mut room), Ok(6));
+        assert_eq!(room, CARD_EMPTY);
+        assert_eq!(move_refused(&longer, form, 7), Refusal::MalformedCard);
+    }
 }
 
 #[test]
@@ -58,6 +107,7 @@ fn example_9_put_right() {
     };
     assert_eq!(check(&mut book, &accepted_by_b()), Ok(accepted));
     assert_eq!(book.received, [11]);
+    assert_eq!(book.marks, [1]);
 }
 
 #[test]

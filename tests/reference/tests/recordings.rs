@@ -1,13 +1,17 @@
 //! Recordings written by hand, on the second implementation (docs/RULES.md, 'A recording').
 
 use reference::capture::{judged, judged_where_a_read_fails};
-use reference::examples::{frame_of_b, recordings_of_b, CARD_B, CARD_EMPTY};
+use reference::examples::{
+    frame_of_b, recordings_of_b, CARDS_B, CARD_B_NOT_HEARD, CARD_EMPTY, NEW_CARD_B, OLD_CARD_B,
+};
 
 const ACCEPTED: &str = "1 accepted row 0 counter 11\n";
 
-/// The text for a capture on book B.
+/// The text for a capture on book B, the same with either of its cards.
 fn judged_on_b(capture: &[u8]) -> String {
-    judged(Some(&CARD_B), Some(capture))
+    let [old, new] = CARDS_B.map(|card| judged(Some(card), Some(capture)));
+    assert_eq!(old, new);
+    new
 }
 
 #[test]
@@ -24,6 +28,8 @@ fn the_counter_of_an_accepted_message_counts_for_the_records_behind() {
         let twice = [&capture[..], &capture[24..]].concat();
         let expected = format!("{ACCEPTED}2 refused 11\n");
         assert_eq!(judged_on_b(&twice), expected);
+        let not_heard = judged(Some(&CARD_B_NOT_HEARD), Some(&twice));
+        assert_eq!(not_heard, expected);
     }
 }
 
@@ -41,7 +47,7 @@ fn each_length() {
                 _ => ("cut\n".to_string(), "cut\n".to_string()),
             };
             assert_eq!(judged_on_b(front), at_end, "{length} bytes");
-            let found = judged_where_a_read_fails(&CARD_B, front);
+            let found = judged_where_a_read_fails(&NEW_CARD_B, front);
             assert_eq!(found, failing, "a read fails behind {length} bytes");
         }
     }
@@ -50,14 +56,20 @@ fn each_length() {
 #[test]
 fn unreadable_files() {
     let [capture, _] = recordings_of_b();
-    let longer = [&CARD_B[..], &[0]].concat();
+    let [longer, longer_old] = [&NEW_CARD_B[..], &OLD_CARD_B].map(|card| [card, &[0]].concat());
     let above = vec![0; 65_536];
-    let cards = [None, Some(&[][..]), Some(&longer), Some(&above)];
+    let cards = [
+        None,
+        Some(&[][..]),
+        Some(&longer),
+        Some(&longer_old),
+        Some(&above),
+    ];
     for card in cards {
         assert_eq!(judged(card, Some(&capture)), "unreadable\n");
         assert_eq!(judged(card, None), "unreadable\n");
     }
-    assert_eq!(judged(Some(&CARD_B), None), "unreadable\n");
+    assert_eq!(judged(Some(&NEW_CARD_B), None), "unreadable\n");
 }
 
 /// The capture with each byte of the file's header turned round: of the magic number and the link

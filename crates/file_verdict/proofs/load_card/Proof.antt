@@ -8,11 +8,11 @@ use Rattle.file_verdict.proofs.load_card.Statement.{statement}
 use Rattle.file_verdict.proofs.load_card.Tie as tie
 
 abbrev lent : tie.Start → Book
-lent s = bookOf (s .args .ids .now) (s .args .lengths .now) (s .args .store .now) (s .args .received .now) (s .args .sent .now) 0
+lent s = bookOf (s .args .ids .now) (s .args .lengths .now) (s .args .store .now) (s .args .marks .now) (s .args .received .now) (s .args .sent .now) 0
 
 returns : tie.Need-returns
 returns c =
-    let s = c .before .before .before .before .before .before .before .before .before in
+    let s = c .before .before .before .before .before .before .before .before .before .before in
     card-none (lent s) _ (rw (c .enum-told .given .1) at (c .before .before .within-limit .ensures))
 
 slice-aggregate-card-read : tie.Need-slice-aggregate-card-read
@@ -23,9 +23,9 @@ slice-aggregate-card-read c =
 -- the card's size is known at w, and its answer at d
 returns-2 : tie.Need-returns-2
 returns-2 c =
-    let d = c .before .before .before .before .before .before .before .before .before .before .before .before .before in
-    let w = d .before .before .before .before .before .before .before .before in
-    let s = w .before .before .before .before .before .before .before .before .before in
+    let d = c .before .before .before .before .before .before .before .before .before .before .before .before .before .before .before in
+    let w = d .before .before .before .before .before .before .before .before .before in
+    let s = w .before .before .before .before .before .before .before .before .before .before in
     let j = rw (w .card .given .1) at (w .before .before .within-limit .ensures) .1 in
     let a = c .before .answer .given .1 in
     let e = d .card-read .ensures in
@@ -33,9 +33,9 @@ returns-2 c =
 
 returns-3 : tie.Need-returns-3
 returns-3 c =
-    let d = c .before .before .before .before .before .before .before .before .before .before .before .before .before in
-    let w = d .before .before .before .before .before .before .before .before in
-    let s = w .before .before .before .before .before .before .before .before .before in
+    let d = c .before .before .before .before .before .before .before .before .before .before .before .before .before .before .before in
+    let w = d .before .before .before .before .before .before .before .before .before in
+    let s = w .before .before .before .before .before .before .before .before .before .before in
     let j = rw (w .card .given .1) at (w .before .before .within-limit .ensures) .1 in
     let a = c .before .answer2 .given .1 in
     let e = d .card-read .ensures in
@@ -58,7 +58,9 @@ load-card-spec =
     (λ c. search needs)
     (λ c. search needs)
     (λ c. search needs)
+    (λ c. search needs)
     returns-2
+    (λ c. search needs)
     (λ c. search needs)
     (λ c. search needs)
     (λ c. search needs)

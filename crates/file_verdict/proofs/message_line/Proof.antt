@@ -2,33 +2,35 @@
 use mathlib.Core.Path.{refl, sym, _∙_}
 use lib.Seq.{length-take-le}
 use Rattle.key_book.specs.Book.{Book, bookOf}
-use Rattle.file_verdict.proofs.Stages.{message-none, message-checked, counter-stored}
+use Rattle.file_verdict.proofs.Stages.{message-none, message-checked, row-marked, counter-stored}
 use borrow.Author.Needs.{needs}
 use Rattle.file_verdict.proofs.message_line.Statement.{statement}
 use Rattle.file_verdict.proofs.message_line.Tie as tie
 
 abbrev lent : tie.Start → Book
-lent s = bookOf (s .args .ids .now) (s .args .lengths .now) (s .args .store .now) (s .args .received .now) (s .args .sent .now) (s .args .rows)
+lent s =
+    let a = s .args in
+    bookOf (a .ids .now) (a .lengths .now) (a .store .now) (a .marks .now) (a .received .now) (a .sent .now) (a .rows)
 
 returns : tie.Need-returns
 returns c =
-    let s = c .before .before .before .before .before .before .before .before .before in
+    let s = c .before .before .before .before .before .before .before .before .before .before in
     message-none (lent s) _ (rw (c .enum-told .given .1) at (c .before .before .within-limit .ensures))
 
 slice-aggregate-check : tie.Need-slice-aggregate-check
 slice-aggregate-check c =
-    let w = c .before .before .before in
+    let w = c .before .before .before .before in
     sym (length-take-le _ _ (rw (w .message .given .1) at (w .before .before .within-limit .ensures) .0))
 
 -- the message's verdict is known at d, and its size at w
 returns-2 : tie.Need-returns-2
 returns-2 c =
-    let d = c .before .before .before in
-    let w = d .before .before .before .before in
-    let s = w .before .before .before .before .before .before .before .before .before in
+    let d = c .before .before .before .before .before in
+    let w = d .before .before .before .before .before in
+    let s = w .before .before .before .before .before .before .before .before .before .before in
     let j = rw (w .message .given .1) at (w .before .before .within-limit .ensures) .1 in
     let e = d .check .ensures in
-    (c .line-of .ensures ∙ message-checked (lent s) _ j refl (e .0), counter-stored (lent s) _ j (e .1))
+    (c .line-of .ensures ∙ message-checked (lent s) _ j refl (e .0), (row-marked (lent s) _ j (e .1 .0), counter-stored (lent s) _ j (e .1 .1)))
 
 pub message-line-spec : {M : Type 1} → statement M
 message-line-spec =
@@ -41,5 +43,6 @@ message-line-spec =
     slice-aggregate-check
     (λ c κs. search needs)
     (λ c κs. search needs)
+    (λ c. search needs)
     (λ c. search needs)
     returns-2)

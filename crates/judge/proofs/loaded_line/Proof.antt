@@ -9,8 +9,8 @@ returns c = card-stopped _ (c .before .loaded .given .1)
 
 returns-2 : tie.Need-returns-2
 returns-2 c =
-    let m = c .before .before in
-    card-rows _ _ _ _ _ (m .before .before .before .before .before .before .before .before .loaded2 .given .1) _ (m .message-line .ensures .0)
+    let m = c .before .before .before .before in
+    card-rows _ _ _ _ _ _ (m .before .before .before .before .before .before .before .before .before .loaded2 .given .1) _ (m .message-line .ensures .0)
 
 pub loaded-line-spec : {M : Type 1} → statement M
 loaded-line-spec =
@@ -24,5 +24,6 @@ loaded-line-spec =
     (λ c. search needs)
     (λ c κs. search needs)
     returns
+    (λ c. search needs)
     (λ c. search needs)
     returns-2)

@@ -8,24 +8,24 @@ use Rattle.judge_capture.proofs.judge_recording.Statement.{statement}
 use Rattle.judge_capture.proofs.judge_recording.Tie as tie
 
 returns : tie.Need-returns
-returns c = inl refl
+returns c = inl (refl, refl)
 
 returns-2 : tie.Need-returns-2
-returns-2 c = inl refl
+returns-2 c = inl (refl, refl)
 
 judge-records-requires : tie.Need-judge-records-requires
 judge-records-requires c κs =
-    let d = c .before .before .before .before in
+    let d = c .before .before .before .before .before in
     let o = rw (d .opening .given .1) at (d .before .before .before .open-capture .ensures) in
     (o .ordered, (o .within, (search needs, search needs)))
 
 finish-requires : tie.Need-finish-requires
-finish-requires c κs = c .before .before .before .before .before .judge-records .ensures .1 .0
+finish-requires c κs = c .before .before .before .before .before .before .before .judge-records .ensures .1 .0
 
 returns-3 : tie.Need-returns-3
 returns-3 c =
-    let j = c .before .before .before .before .before .before in
-    let d = j .before .before .before .before .before in
+    let j = c .before .before .before .before .before .before .before .before in
+    let d = j .before .before .before .before .before .before in
     let o = rw (d .opening .given .1) at (d .before .before .before .open-capture .ensures) in
     inr (recorded o (j .judge-records .ensures .0))
 
@@ -48,5 +48,6 @@ judge-recording-spec =
     judge-records-requires
     (λ c. search needs)
     finish-requires
+    (λ c. search needs)
     (λ c. search needs)
     returns-3)

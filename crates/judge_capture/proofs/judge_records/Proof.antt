@@ -12,11 +12,12 @@ use Rattle.judge_capture.proofs.judge_records.Statement.{statement}
 use Rattle.judge_capture.proofs.judge_records.Tie as tie
 
 abbrev Inv-loop : tie.InvT-loop
-Inv-loop fd order room₀ start held out₀ ids lengths store received₀ sent rows size₀ number₀ from₀ have₀ room out received size number from have =
-    Looping order (bookOf ids lengths store received₀ sent rows) (window room₀ start held) (length room₀) (length out₀) room received out size number from have
+Inv-loop fd order room₀ start held out₀ ids lengths store marks₀ received₀ sent rows size₀ number₀ from₀ have₀ room out marks received size number from have =
+    let b = bookOf ids lengths store marks₀ received₀ sent rows in
+    Looping order b (window room₀ start held) (length room₀) (length out₀) room marks received out size number from have
 
 abbrev μ-loop : tie.MeasureT-loop
-μ-loop fd order room₀ start held out₀ ids lengths store received₀ sent rows size₀ number₀ from₀ have₀ room out received size number from have =
+μ-loop fd order room₀ start held out₀ ids lengths store marks₀ received₀ sent rows size₀ number₀ from₀ have₀ room out marks received size number from have =
     2 ^ 64 - number
 
 loop-holds : tie.Need-loop-holds Inv-loop μ-loop
@@ -25,6 +26,7 @@ loop-holds c =
       ordered = search needs;
       within = search needs;
       long = refl;
+      marks-long = refl;
       counters-long = refl;
       out-long = refl;
       waiting = search needs;
@@ -67,30 +69,31 @@ part-judge-frame-end c =
 
 judge-frame-requires : tie.Need-judge-frame-requires Inv-loop μ-loop
 judge-frame-requires c κs =
-    let n = c .before .before .before .before .before in
+    let n = c .before .before .before .before .before .before in
     let l = n .before .before .before .before .before .before .before .loop .inv in
     omega (arith, l .waiting, l .out-long)
 
 make-room-requires : tie.Need-make-room-requires Inv-loop μ-loop
 make-room-requires c κs =
-    let d = c .before .before .before .before .before in
-    let n = d .before .before .before .before .before .before in
+    let d = c .before .before .before .before .before .before .before in
+    let n = d .before .before .before .before .before .before .before in
     let l = n .before .before .before .before .before .before .before .loop .inv in
     (omega (arith, l .waiting, l .out-long), search needs)
 
 returns-2 : tie.Need-returns-2 Inv-loop μ-loop
 returns-2 c =
-    let d = c .before .before .before .before .before .before .before .before in
-    let n = d .before .before .before .before .before .before in
+    let d = c .before .before .before .before .before .before .before .before .before .before in
+    let n = d .before .before .before .before .before .before .before in
     let l = n .before .before .before .before .before .before .before .loop .inv in
     let t = rw (n .next .given .1) at (n .before .before .before .before .next-record .ensures) in
     let j = d .judge-frame .ensures in
-    (judged (progress-turn (l .progress) t (j .0) (j .1 .1) refl (omega (arith, l .waiting, l .out-long)) (j .1 .0) (search needs) refl), (tt, tt))
+    let m = j .1 .1 in
+    (judged (progress-turn (l .progress) t (j .0) (m .0) (m .1) refl (omega (arith, l .waiting, l .out-long)) (j .1 .0) (search needs) refl), (tt, tt))
 
 loop-again : tie.Need-loop-again Inv-loop μ-loop
 loop-again c =
-    let d = c .before .before .before .before .before .before .before .before .before in
-    let n = d .before .before .before .before .before .before in
+    let d = c .before .before .before .before .before .before .before .before .before .before .before in
+    let n = d .before .before .before .before .before .before .before in
     let l = n .before .before .before .before .before .before .before .loop .inv in
     let t = rw (n .next .given .1) at (n .before .before .before .before .next-record .ensures) in
     let j = d .judge-frame .ensures in
@@ -100,11 +103,12 @@ loop-again c =
       ordered = t .frame-within;
       within = t .within;
       long = search needs;
+      marks-long = search needs;
       counters-long = search needs;
       out-long = search needs;
       waiting = search needs;
       small = search needs;
-      progress = progress-turn (l .progress) t (j .0) (j .1 .1) refl (omega (arith, l .waiting, l .out-long)) (j .1 .0) (search needs) (m .0);
+      progress = progress-turn (l .progress) t (j .0) (j .1 .1 .0) (j .1 .1 .1) refl (omega (arith, l .waiting, l .out-long)) (j .1 .0) (search needs) (m .0);
     }
 
 returns-3 : tie.Need-returns-3 Inv-loop μ-loop
@@ -123,6 +127,7 @@ judge-records-spec =
     (λ c. search needs)
     (λ c. search needs)
     (λ c. search needs)
+    (λ c. search needs)
     returns
     (λ c. search needs)
     sub-judge-frame
@@ -135,9 +140,11 @@ judge-records-spec =
     (λ c. search needs)
     (λ c. search needs)
     (λ c. search needs)
+    (λ c. search needs)
     returns-2
     (λ c. search needs)
     loop-again
+    (λ c. search needs)
     (λ c. search needs)
     (λ c. search needs)
     (λ c. search needs)

@@ -18,7 +18,10 @@ returns-4 : tie.Need-returns-4
 returns-4 c = not-sized _ (λ s. omega arith)
 
 returns-5 : tie.Need-returns-5
-returns-5 c = sizes-last _ (search needs) (search needs) (search needs) (search needs)
+returns-5 c = not-sized _ (λ s. omega arith)
+
+returns-6 : tie.Need-returns-6
+returns-6 c = sizes-last _ (search needs) (search needs) (search needs) (search needs) (search needs)
 
 pub sizes-agree-spec : {M : Type 1} → statement M
-sizes-agree-spec = tie.close (tie.spec returns returns-2 (λ c. search needs) returns-3 returns-4 returns-5)
+sizes-agree-spec = tie.close (tie.spec returns returns-2 (λ c. search needs) returns-3 returns-4 returns-5 returns-6)

@@ -1,10 +1,10 @@
 //! Key books: sound ones of every size, and ones with a single thing wrong.
 
 use crate::random::Random;
-use reference::book::{ROOM_MOST, ROWS_MOST, SLOT};
+use reference::book::{HEARD, NOT_HEARD, ROOM_MOST, ROWS_MOST, SLOT};
 use reference::Book;
 
-/// A sound book. Slot bytes past a key and rows not in use hold anything.
+/// A sound book. Slot bytes past a key and rows not in use hold anything, their marks any byte.
 pub fn sound(random: &mut Random) -> Book {
     let room = match random.below(100) {
         0..=59 => random.within(0..=8),
@@ -36,17 +36,71 @@ pub fn sound_with_a_row(random: &mut Random) -> Book {
 pub fn with_rows(random: &mut Random, room: usize, rows: usize) -> Book {
     let mut ids = ascending_ids(random, rows);
     let mut lengths: Vec<u8> = (0..rows).map(|_| key_length(random)).collect();
+    let mut marks = marks(random, rows);
+    let mut received: Vec<u64> = marks.iter().map(|mark| received(random, *mark)).collect();
     for _ in rows..room {
         ids.push(random.u32());
         lengths.push(random.u8());
+        marks.push(any_mark(random));
+        received.push(counter(random));
     }
     Book {
         ids,
         lengths,
         store: random.bytes(SLOT * room),
-        received: (0..room).map(|_| counter(random)).collect(),
+        marks,
+        received,
         sent: (0..room).map(|_| counter(random)).collect(),
         rows,
+    }
+}
+
+/// A sound book none of whose rows is heard.
+pub fn not_heard(random: &mut Random, room: usize, rows: usize) -> Book {
+    let mut book = with_rows(random, room, rows);
+    book.marks[..rows].fill(NOT_HEARD);
+    book.received[..rows].fill(0);
+    book
+}
+
+/// The marks of some rows: all are heard, none, half of them or most.
+pub fn marks(random: &mut Random, rows: usize) -> Vec<u8> {
+    let of_rows: [&[u8]; 4] = [
+        &[HEARD],
+        &[NOT_HEARD],
+        &[NOT_HEARD, HEARD],
+        &[NOT_HEARD, HEARD, HEARD, HEARD],
+    ];
+    let marks = random.pick(&of_rows);
+    (0..rows).map(|_| random.pick(marks)).collect()
+}
+
+/// A received counter that goes with a mark.
+pub fn received(random: &mut Random, mark: u8) -> u64 {
+    match mark {
+        NOT_HEARD => 0,
+        _ => counter(random),
+    }
+}
+
+/// A byte in place of a mark.
+fn any_mark(random: &mut Random) -> u8 {
+    let any = random.u8();
+    random.pick(&[NOT_HEARD, HEARD, 2, 255, any])
+}
+
+/// A byte that is no mark.
+pub fn wrong_mark(random: &mut Random) -> u8 {
+    let any = random.within(2..=255) as u8;
+    random.pick(&[2, 3, 128, 255, any])
+}
+
+/// A counter that a row not heard can't have: a single bit of it is set, or others too.
+pub fn wrong_counter(random: &mut Random) -> u64 {
+    match random.below(3) {
+        0 => counter(random).max(1),
+        1 => random.pick(&[1, 256, 1 << 63]),
+        _ => 1 << random.below(64),
     }
 }
 
@@ -89,6 +143,7 @@ pub enum Fault {
     IdsSize,
     KeyLengthsSize,
     KeyStoreSize,
+    MarksSize,
     ReceivedSize,
     SentSize,
     RoomAbove1024,
@@ -99,13 +154,16 @@ pub enum Fault {
     IdsOutOfOrder,
     KeyEmpty,
     KeyTooLong,
+    MarkAbove1,
+    CounterNotHeard,
 }
 
 impl Fault {
-    pub const ALL: [Fault; 13] = [
+    pub const ALL: [Fault; 16] = [
         Fault::IdsSize,
         Fault::KeyLengthsSize,
         Fault::KeyStoreSize,
+        Fault::MarksSize,
         Fault::ReceivedSize,
         Fault::SentSize,
         Fault::RoomAbove1024,
@@ -116,13 +174,16 @@ impl Fault {
         Fault::IdsOutOfOrder,
         Fault::KeyEmpty,
         Fault::KeyTooLong,
+        Fault::MarkAbove1,
+        Fault::CounterNotHeard,
     ];
 
     /// The faults in the sizes alone, which reading a card looks at too.
-    pub const SIZES: [Fault; 6] = [
+    pub const SIZES: [Fault; 7] = [
         Fault::IdsSize,
         Fault::KeyLengthsSize,
         Fault::KeyStoreSize,
+        Fault::MarksSize,
         Fault::ReceivedSize,
         Fault::SentSize,
         Fault::RoomAbove1024,
@@ -133,19 +194,21 @@ impl Fault {
         match self {
             Fault::IdRepeated | Fault::IdsOutOfOrder => 2,
             Fault::KeyEmpty | Fault::KeyTooLong => 1,
+            Fault::MarkAbove1 | Fault::CounterNotHeard => 1,
             _ => 0,
         }
     }
 }
 
-/// Makes a sound book unsound by one fault, any of those that it has the rows for.
-pub fn spoil(random: &mut Random, book: &mut Book) {
+/// Makes a sound book unsound by one fault, any of those that it has the rows for, and says by which.
+pub fn spoil(random: &mut Random, book: &mut Book) -> Fault {
     let possible: Vec<Fault> = Fault::ALL
         .into_iter()
         .filter(|fault| fault.rows_needed() <= book.rows)
         .collect();
     let fault = random.pick(&possible);
     spoil_by(random, book, fault);
+    fault
 }
 
 /// Makes a sound book unsound by this fault, which it has the rows for.
@@ -154,6 +217,7 @@ pub fn spoil_by(random: &mut Random, book: &mut Book, fault: Fault) {
         Fault::IdsSize => resize(random, &mut book.ids),
         Fault::KeyLengthsSize => resize(random, &mut book.lengths),
         Fault::KeyStoreSize => resize_store(random, &mut book.store),
+        Fault::MarksSize => resize(random, &mut book.marks),
         Fault::ReceivedSize => resize(random, &mut book.received),
         Fault::SentSize => resize(random, &mut book.sent),
         Fault::RoomAbove1024 => {
@@ -190,7 +254,22 @@ pub fn spoil_by(random: &mut Random, book: &mut Book, fault: Fault) {
             let row = random.below(book.rows);
             book.lengths[row] = random.pick(&[65, 66, 128, 255]);
         }
+        Fault::MarkAbove1 => {
+            let row = some_row(random, book.rows);
+            book.marks[row] = wrong_mark(random);
+        }
+        Fault::CounterNotHeard => {
+            let row = some_row(random, book.rows);
+            book.marks[row] = NOT_HEARD;
+            book.received[row] = wrong_counter(random);
+        }
     }
+}
+
+/// One of so many rows, often the first or the last.
+pub fn some_row(random: &mut Random, rows: usize) -> usize {
+    let any = random.below(rows);
+    random.pick(&[0, rows - 1, any, any])
 }
 
 /// Gives a part another size, mostly by one row.
@@ -218,6 +297,135 @@ fn pick_other(random: &mut Random, sizes: &[usize], not: usize) -> usize {
 #[cfg(test)]
 mod tests {
     use super::*;
+
+    type Situation = (&'static str, fn(&Book) -> bool);
+
+    fn in_use(book: &Book) -> &[u8] {
+        &book.marks[..book.rows]
+    }
+
+    /// Whether some row of these has such a mark and such a counter.
+    fn has(book: &Book, rows: std::ops::Range<usize>, is: fn(u8, u64) -> bool) -> bool {
+        rows.into_iter()
+            .any(|row| is(book.marks[row], book.received[row]))
+    }
+
+    /// How marks stand in a sound book.
+    const MARKED: [Situation; 11] = [
+        ("two rows, both heard", |b| in_use(b) == [HEARD, HEARD]),
+        ("two rows, none heard", |b| {
+            in_use(b) == [NOT_HEARD, NOT_HEARD]
+        }),
+        ("the first heard alone", |b| in_use(b) == [HEARD, NOT_HEARD]),
+        ("the last heard alone", |b| in_use(b) == [NOT_HEARD, HEARD]),
+        ("64 rows, all heard", |b| in_use(b) == [HEARD; 64]),
+        ("64 rows, none heard", |b| in_use(b) == [NOT_HEARD; 64]),
+        ("a heard row with counter 0", |b| {
+            has(b, 0..b.rows, |mark, counter| mark == HEARD && counter == 0)
+        }),
+        ("a heard row with the last counter", |b| {
+            has(b, 0..b.rows, |_, counter| counter == u64::MAX)
+        }),
+        ("a byte above 1 beyond the rows in use", |b| {
+            has(b, b.rows..b.ids.len(), |mark, _| mark > HEARD)
+        }),
+        ("0 and a counter beyond the rows in use", |b| {
+            has(b, b.rows..b.ids.len(), |mark, counter| {
+                mark == NOT_HEARD && counter != 0
+            })
+        }),
+        ("a byte above 1 right behind the rows in use", |b| {
+            b.rows > 0 && b.marks.get(b.rows).is_some_and(|mark| *mark > HEARD)
+        }),
+    ];
+
+    /// How a mark or its counter is wrong in a book that has nothing else wrong.
+    const MARKED_WRONG: [Situation; 9] = [
+        ("2 in the first row", |b| b.marks[0] == 2 && b.rows > 1),
+        ("2 in the last row", |b| {
+            b.marks[b.rows - 1] == 2 && b.rows > 1
+        }),
+        ("255", |b| in_use(b).contains(&255)),
+        ("128", |b| in_use(b).contains(&128)),
+        ("a byte above 1 in the last of 64 rows", |b| {
+            b.rows == 64 && b.marks[63] > HEARD
+        }),
+        ("counter 1 in the first row, not heard", |b| {
+            has(b, 0..1, |mark, counter| mark == NOT_HEARD && counter == 1)
+        }),
+        ("counter 1 in the last row, not heard", |b| {
+            has(b, b.rows - 1..b.rows, |mark, counter| {
+                mark == NOT_HEARD && counter == 1
+            })
+        }),
+        ("the highest bit alone, not heard", |b| {
+            has(b, 0..b.rows, |mark, counter| {
+                mark == NOT_HEARD && counter == 1 << 63
+            })
+        }),
+        ("a wrong counter in the last of 64 rows", |b| {
+            b.rows == 64 && b.marks[63] == NOT_HEARD && b.received[63] != 0
+        }),
+    ];
+
+    fn require_each(books: &[Book], situations: &[Situation]) {
+        for (name, holds) in situations {
+            assert!(books.iter().any(holds), "marks never came up: {name}");
+        }
+    }
+
+    #[test]
+    fn marks_come_up_in_each_way() {
+        let mut random = Random::new(11);
+        let books: Vec<Book> = (0..5_000).map(|_| sound(&mut random)).collect();
+        require_each(&books, &MARKED);
+    }
+
+    #[test]
+    fn wrong_marks_and_counters_come_up_in_each_way() {
+        let mut random = Random::new(12);
+        let mut spoiled = |fault| {
+            let mut book = sound_with_a_row(&mut random);
+            spoil_by(&mut random, &mut book, fault);
+            book
+        };
+        let faults = [Fault::MarkAbove1, Fault::CounterNotHeard];
+        let books: Vec<Book> = (0..5_000).map(|k| spoiled(faults[k % 2])).collect();
+        require_each(&books, &MARKED_WRONG);
+    }
+
+    /// The list of marks is a byte too short, a byte too long, 64 too long and empty, and the others
+    /// agree.
+    #[test]
+    fn a_list_of_marks_of_another_size() {
+        let mut random = Random::new(13);
+        let (mut differences, mut empty) = (vec![], 0);
+        for _ in 0..500 {
+            let mut book = sound_with_a_row(&mut random);
+            spoil_by(&mut random, &mut book, Fault::MarksSize);
+            assert_eq!(book.ids.len(), book.received.len());
+            differences.push(book.marks.len() as isize - book.ids.len() as isize);
+            // Of a room for one row the empty list is the one that is a byte too short.
+            empty += usize::from(book.marks.is_empty() && book.ids.len() > 1);
+        }
+        for difference in [-1, 1, 64] {
+            assert!(differences.contains(&difference), "{difference}");
+        }
+        assert!(!differences.contains(&0));
+        assert!(empty > 0, "no list of marks was empty");
+    }
+
+    /// Whichever fault is made, each comes up.
+    #[test]
+    fn each_fault_is_drawn() {
+        let mut random = Random::new(14);
+        let mut drawn = vec![];
+        for _ in 0..1_000 {
+            let mut book = sound(&mut random);
+            drawn.push(spoil(&mut random, &mut book));
+        }
+        assert!(Fault::ALL.iter().all(|fault| drawn.contains(fault)));
+    }
 
     #[test]
     fn sound_books_are_sound_and_each_fault_spoils() {

@@ -264,7 +264,7 @@ mod tests {
     use super::*;
     use crate::generate::books;
     use reference::capture::judged;
-    use reference::card::{card_of_rows, rows_of_book};
+    use reference::card::{card_of_rows, rows_of_book, Form};
 
     /// The texts for a number of captures with these things wrong.
     fn texts(damages: &[Damage], count: usize) -> Vec<String> {
@@ -272,7 +272,8 @@ mod tests {
         let mut text = || {
             let book = books::sound_with_a_row(&mut random);
             let capture = with_damages(&mut random, &book, damages);
-            judged(Some(&card_of_rows(&rows_of_book(&book))), Some(&capture))
+            let card = card_of_rows(Form::New, &rows_of_book(&book));
+            judged(Some(&card), Some(&capture))
         };
         (0..count).map(|_| text()).collect()
     }
@@ -285,16 +286,16 @@ mod tests {
 
     #[test]
     fn whole_captures_are_whole() {
-        let texts = texts(&[], 500);
+        let texts = texts(&[], 1_000);
         assert_eq!(count(&texts, "unreadable") + count(&texts, "cut"), 0);
         assert!(texts.iter().any(|text| text.is_empty()));
         assert!(texts.iter().any(|text| text.lines().count() > 99));
-        assert!(count(&texts, "skipped") > 200);
+        assert!(count(&texts, "skipped") > 400);
         for end in ["refused 10", "refused 11", "refused 12"] {
             assert!(count(&texts, end) > 20, "{end}");
         }
         let rising = |text: &&String| text.matches("accepted").count() > 1;
-        assert!(texts.iter().filter(rising).count() > 200);
+        assert!(texts.iter().filter(rising).count() > 400);
     }
 
     /// Each damage makes the files it is for.

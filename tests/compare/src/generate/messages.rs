@@ -1,7 +1,7 @@
 //! Messages: random bytes, well-formed ones signed for a row of a book, relay-changed ones, and
 //! ones with one or two things wrong.
 
-use super::relays;
+use super::{books, relays};
 use crate::random::Random;
 use reference::auth::sign;
 use reference::examples::accepted_by_b;
@@ -31,10 +31,18 @@ pub fn any(random: &mut Random, book: &Book) -> Vec<u8> {
     }
 }
 
-/// A well-formed message that names a row of the book, if it has one, with a counter above the
-/// received one, if there is such a counter, and the right MAC.
+/// A well-formed message that names a row of the book, if it has one, with a counter that is new to
+/// it, if there is such a counter, and the right MAC.
 pub fn well_formed(random: &mut Random, book: &Book) -> Vec<u8> {
     with_faults(random, book, &[])
+}
+
+/// A well-formed message that names this row of the book, with this counter and the right MAC.
+pub fn well_formed_with(random: &mut Random, book: &Book, row: usize, counter: u64) -> Vec<u8> {
+    let mut message = draft(random).bytes();
+    let found = full_form(&message).expect("in full form");
+    sign(&mut message, &found, book.key(row), book.ids[row], counter);
+    message
 }
 
 /// Bench example 9's message signed anew.
@@ -334,7 +342,7 @@ pub fn with_faults(random: &mut Random, book: &Book, faults: &[Fault]) -> Vec<u8
     message
 }
 
-/// A row of the book with its key and a counter above its received one, as far as there are such.
+/// A row of the book with its key and a counter that is new to it, as far as there are such.
 fn signing_for(random: &mut Random, book: &Book) -> Signing {
     if book.rows == 0 {
         return Signing {
@@ -346,8 +354,20 @@ fn signing_for(random: &mut Random, book: &Book) -> Signing {
     let row = random.below(book.rows);
     Signing {
         id: book.ids[row],
-        counter: counter_above(random, book.received[row]),
+        counter: new_counter(random, book, row),
         key: book.key(row).to_vec(),
+    }
+}
+
+/// A counter that is new to a row, where there is one: one above the received where the row is heard,
+/// and else any, often 0 or the last there is.
+fn new_counter(random: &mut Random, book: &Book, row: usize) -> u64 {
+    if book.is_heard(row) {
+        return counter_above(random, book.received[row]);
+    }
+    match random.below(8) {
+        0 => u64::MAX,
+        _ => books::counter(random),
     }
 }
 
@@ -466,12 +486,26 @@ fn spoil_signing(random: &mut Random, signing: &mut Signing, book: &Book, fault:
     match fault {
         Fault::UnknownId => signing.id = unknown_id(random, book, signing.id),
         Fault::OldCounter => {
+            move_to_heard_row(random, signing, book);
             let row = book.row_of(signing.id);
             let received = row.map_or(0, |row| book.received[row]);
             signing.counter = old_counter(random, received);
         }
         Fault::OtherKey => signing.key = other_key(random, book, &signing.key),
         _ => {}
+    }
+}
+
+/// Goes on to a heard row, if the book has one: no counter is old to one that is not heard.
+fn move_to_heard_row(random: &mut Random, signing: &mut Signing, book: &Book) {
+    let heard: Vec<usize> = (0..book.rows).filter(|row| book.is_heard(*row)).collect();
+    let not_heard = book
+        .row_of(signing.id)
+        .is_some_and(|row| !book.is_heard(row));
+    if not_heard && !heard.is_empty() {
+        let row = random.pick(&heard);
+        signing.id = book.ids[row];
+        signing.key = book.key(row).to_vec();
     }
 }
 
@@ -575,22 +609,50 @@ fn add_relay_agent_above_1472(random: &mut Random, message: &mut Vec<u8>) {
 #[cfg(test)]
 mod tests {
     use super::*;
-    use crate::generate::{books, situations};
-    use reference::check;
+    use crate::generate::situations;
     use reference::refusal::number_of;
+    use reference::{check, Refusal};
 
-    /// Where there is a row that can still accept, a well-formed message is accepted.
+    /// A sound book whose rows can all accept: they are heard with counter 5, or not heard.
+    fn accepting(random: &mut Random) -> Book {
+        let mut book = books::sound_with_a_row(random);
+        for row in 0..book.rows {
+            book.received[row] = if book.is_heard(row) { 5 } else { 0 };
+        }
+        book
+    }
+
+    /// Where every row can still accept, a well-formed message is accepted.
     #[test]
     fn well_formed_messages_are_accepted() {
         let mut random = Random::new(3);
         for _ in 0..2_000 {
-            let mut book = books::sound_with_a_row(&mut random);
-            book.received.fill(5);
+            let book = accepting(&mut random);
             let message = well_formed(&mut random, &book);
-            assert!(check(&mut book, &message).is_ok());
-            book.received.fill(5);
+            assert!(check(&mut book.clone(), &message).is_ok());
             let relayed = relays::changed(&mut random, &message);
-            assert!(check(&mut book, &relayed).is_ok());
+            assert!(check(&mut book.clone(), &relayed).is_ok());
+        }
+    }
+
+    /// A message for this row and with this counter is accepted by it where the counter is new.
+    #[test]
+    fn messages_for_a_row_and_with_a_counter() {
+        let mut random = Random::new(18);
+        for counter in [0, 5, 6, u64::MAX] {
+            for _ in 0..200 {
+                let mut book = accepting(&mut random);
+                let row = random.below(book.rows);
+                let message = well_formed_with(&mut random, &book, row, counter);
+                let is_new = !book.is_heard(row) || counter > 5;
+                let answer = check(&mut book, &message).map(|accepted| accepted.row);
+                let expected = if is_new {
+                    Ok(row)
+                } else {
+                    Err(Refusal::Replay)
+                };
+                assert_eq!(answer, expected);
+            }
         }
     }
 
@@ -601,8 +663,7 @@ mod tests {
         for fault in Fault::ALL {
             let mut refused = 0;
             for _ in 0..500 {
-                let mut book = books::sound_with_a_row(&mut random);
-                book.received.fill(5);
+                let mut book = accepting(&mut random);
                 let message = with_faults(&mut random, &book, &[fault]);
                 refused += usize::from(check(&mut book, &message).is_err());
             }

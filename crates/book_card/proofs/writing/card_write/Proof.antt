@@ -9,28 +9,29 @@ use Rattle.book_card.proofs.writing.card_write.Tie as tie
 
 abbrev lent : tie.Start → Book
 lent s =
-    bookOf (now (s .args .ids)) (now (s .args .lengths)) (now (s .args .store)) (now (s .args .received)) (now (s .args .sent)) (s .args .rows)
+    bookOf (now (s .args .ids)) (now (s .args .lengths)) (now (s .args .store)) (now (s .args .marks)) (now (s .args .received)) (now (s .args .sent))
+    (s .args .rows)
 
 returns : tie.Need-returns
 returns c =
-    let s = c .before .before .before .before .before .before .before .before in
+    let s = c .before .before .before .before .before .before .before .before .before in
     write-unsound (lent s) _ _ (c .before .is-sound .ensures) (c .if1 .taken)
 
 card-size-requires : tie.Need-card-size-requires
 card-size-requires c κs =
-    let s = c .before .before .before .before .before .before .before .before in
+    let s = c .before .before .before .before .before .before .before .before .before in
     rows-in (lent s) (told-sound (lent s) _ (c .before .is-sound .ensures) (c .if1 .left))
 
 returns-2 : tie.Need-returns-2
 returns-2 c =
     let q = c .before in
-    let s = q .before .before .before .before .before .before .before .before .before in
+    let s = q .before .before .before .before .before .before .before .before .before .before in
     write-no-room (lent s) _ _ (q .before .before .is-sound .ensures) (q .before .if1 .left) _ (q .card-size .ensures) (search needs)
 
 put-card-requires : tie.Need-put-card-requires
 put-card-requires c κs =
     let q = c .before .before in
-    let s = q .before .before .before .before .before .before .before .before .before in
+    let s = q .before .before .before .before .before .before .before .before .before .before in
     let e = q .before .before .is-sound .ensures in
     let size = size-is (lent s) (now (s .args .card)) _ e (q .before .if1 .left) _ (q .card-size .ensures) in
     (told-sound (lent s) _ e (q .before .if1 .left), omega arith)
@@ -38,7 +39,7 @@ put-card-requires c κs =
 returns-3 : tie.Need-returns-3
 returns-3 c =
     let q = c .before .before .before .before .before in
-    let s = q .before .before .before .before .before .before .before .before .before in
+    let s = q .before .before .before .before .before .before .before .before .before .before in
     let e = q .before .before .is-sound .ensures in
     write-done (lent s) _ _ e (q .before .if1 .left) _ (q .card-size .ensures) (search needs) _ (c .before .before .put-card .ensures)
 

@@ -13,7 +13,7 @@ use Rattle.dhcp_message.proofs.Seals.{full-form}
 use Rattle.key_book.specs.Book.{Book, bookOf, sound, rowOf, keyOf}
 use Rattle.key_book.proofs.Answers.{row-at, row-nothing}
 use Rattle.delayed_auth.specs.Admit.{admittedSaid}
-use Rattle.delayed_auth.specs.Check.{sameBytes}
+use Rattle.delayed_auth.specs.Check.{sameBytes, newTo}
 use Rattle.delayed_auth.proofs.Macs.{macIn, mac-part, mac-length, mac-compared, same-equal, same-differ}
 use Rattle.delayed_auth.proofs.Admits.{full-passed, form-said, RowFacts, row-facts}
 use Rattle.delayed_auth.proofs.Judging.{check-unknown, check-replay, check-wrong, check-accepts, case-check}
@@ -25,7 +25,7 @@ use Rattle.delayed_auth.proofs.checks.judged_full.Tie as tie
 -- ---- what is known at the start, and of the row found
 
 abbrev book : tie.Start → Book
-book s = let a = s .args in bookOf (a .ids .now) (a .lengths .now) (a .store .now) (a .received .now) (a .sent .now) (a .rows)
+book s = let a = s .args in bookOf (a .ids .now) (a .lengths .now) (a .store .now) (a .marks .now) (a .received .now) (a .sent .now) (a .rows)
 
 passed : (s : tie.Start) → (sound (book s) ≡ true) × (formOf (s .args .message .now) ≡ Full (s .args .auth))
 passed s = full-passed _ _ _ (s .pre)
@@ -38,7 +38,7 @@ form : (s : tie.Start) → FullForm (s .args .message .now) (s .args .auth)
 form s = full-form _ _ (passed s .1)
 
 abbrev start : tie.After-found → tie.Start
-start c = c .before .before .before .before .before .before .before .before .before
+start c = c .before .before .before .before .before .before .before .before .before .before
 
 row : (c : tie.After-found) → rowOf (book (start c)) (start c .args .auth .id) ≡ some (c .found .given .0 .0)
 row c = row-at _ _ (sym (c .found .given .1) ∙ c .before .before .row-of .ensures)
@@ -46,71 +46,78 @@ row c = row-at _ _ (sym (c .found .given .1) ∙ c .before .before .row-of .ensu
 facts : (c : tie.After-found) → RowFacts (book (start c)) (c .found .given .0 .0)
 facts c = row-facts _ _ _ (passed (start c) .0) (row c)
 
--- from the comparison of the counters on
-abbrev found : tie.Else1 → tie.After-found
+-- from the judgement of the counter on
+abbrev found : tie.After-is-new → tie.After-found
 found c = c .before .before .before .before
+
+new : (c : tie.After-is-new)
+    → let f = found c in newTo (book (start f)) (f .found .given .0 .0) (start f .args .auth .counter) ≡ c .is-new .result
+new c = sym (c .is-new .ensures)
 
 abbrev counted : tie.After-same-mac → tie.Else1
 counted c = c .before .before .before .before .before .before
 
 compared : (c : tie.After-same-mac)
-    → let f = found (counted c) in
+    → let f = found (counted c .before) in
     let m = start f .args .message .now in
     sameBytes (macIn m (start f .args .auth)) (hmac (keyOf (book (start f)) (f .found .given .0 .0)) (imageOf m)) ≡ c .same-mac .result
 compared c =
     let m = c .before .before .before .before in
-    mac-compared _ _ _ _ _ (start (found (counted c)) .args .auth) (c .same-mac .ensures) (m .mac-of .ensures) (m .before .key-of .ensures .0)
+    mac-compared _ _ _ _ _ (start (found (counted c .before)) .args .auth) (c .same-mac .ensures) (m .mac-of .ensures) (m .before .key-of .ensures .0)
 
 -- ---- the needs
 
 returns : tie.Need-returns
 returns c =
     let row = row-nothing _ (sym (c .enum-told .given .1) ∙ c .before .before .row-of .ensures) in
-    case-check _ _ _ (check-unknown (said (c .before .before .before .before .before .before .before .before .before)) row)
+    case-check _ _ _ (check-unknown (said (c .before .before .before .before .before .before .before .before .before .before)) row)
 
-mul-if1 : tie.Need-mul-if1
-mul-if1 c = omega (arith, facts (c .before) .few)
+shared-slice-read-heard : tie.Need-shared-slice-read-heard
+shared-slice-read-heard c = facts (c .before .before) .in-marks
 
-shared-slice-read-if1 : tie.Need-shared-slice-read-if1
-shared-slice-read-if1 c = facts (c .before .before) .in-received
+mul-is-new : tie.Need-mul-is-new
+mul-is-new c = omega (arith, facts (c .before .before) .few)
+
+shared-slice-read-is-new : tie.Need-shared-slice-read-is-new
+shared-slice-read-is-new c = facts (c .before .before .before) .in-received
 
 returns-2 : tie.Need-returns-2
 returns-2 c =
-    let f = c .before .before .before .before in
-    case-check _ _ _ (check-replay (said (start f)) (row f) (c .if1 .taken))
+    let f = found (c .before) in
+    case-check _ _ _ (check-replay (said (start f)) (row f) (new (c .before) ∙ not-true _ (c .if1 .taken)))
 
 mac-of-requires : tie.Need-mac-of-requires
 mac-of-requires c κs =
-    let f = found (c .before) in
+    let f = found (c .before .before) in
     (passed (start f) .1, omega (arith, ap length (c .key-of .ensures .0), facts f .key-short))
 
 add-from : tie.Need-add-from
-add-from c = let f = form (start (found (c .before .before .before))) in omega (arith, f .inside, f .most)
+add-from c = let f = form (start (found (c .before .before .before .before))) in omega (arith, f .inside, f .most)
 
 add-to : tie.Need-add-to
-add-to c = let f = form (start (found (c .before .before .before .before))) in omega (arith, f .inside, f .most)
+add-to c = let f = form (start (found (c .before .before .before .before .before))) in omega (arith, f .inside, f .most)
 
 part-same-mac-end : tie.Need-part-same-mac-end
-part-same-mac-end c = omega (arith, form (start (found (c .before .before .before .before))) .inside)
+part-same-mac-end c = omega (arith, form (start (found (c .before .before .before .before .before))) .inside)
 
 same-mac-requires : tie.Need-same-mac-requires
 same-mac-requires c κs =
-    let s = start (found (c .before .before .before .before .before)) in
+    let s = start (found (c .before .before .before .before .before .before)) in
     ap length (mac-part _ (s .args .auth)) ∙ mac-length _ _ (passed s .1)
 
 returns-3 : tie.Need-returns-3
 returns-3 c =
     let e = counted (c .before) in
-    let f = found e in
+    let f = found (e .before) in
     let wrong = same-differ _ _ (compared (c .before) ∙ not-true _ (c .if2 .taken)) in
-    case-check _ _ _ (check-wrong (said (start f)) (row f) (e .if1 .left) wrong)
+    case-check _ _ _ (check-wrong (said (start f)) (row f) (new (e .before) ∙ not-false _ (e .if1 .left)) wrong)
 
 returns-4 : tie.Need-returns-4
 returns-4 c =
     let e = counted (c .before) in
-    let f = found e in
+    let f = found (e .before) in
     let right = same-equal _ _ (compared (c .before) ∙ not-false _ (c .if2 .left)) in
-    case-check _ _ _ (check-accepts (said (start f)) (row f) (e .if1 .left) right)
+    case-check _ _ _ (check-accepts (said (start f)) (row f) (new (e .before) ∙ not-false _ (e .if1 .left)) right)
 
 pub judged-full-spec : {M : Type 1} → statement M
 judged-full-spec =
@@ -120,8 +127,10 @@ judged-full-spec =
     (search needs)
     (search needs)
     returns
-    mul-if1
-    shared-slice-read-if1
+    shared-slice-read-heard
+    mul-is-new
+    shared-slice-read-is-new
+    (search needs)
     returns-2
     (search needs)
     mac-of-requires

@@ -15,10 +15,10 @@ use Rattle.delayed_auth.proofs.seals.planned.Tie as tie
 -- ---- what is known from the form on
 
 abbrev start : tie.After-form2 → tie.Start
-start c = c .before .before .before .before .before .before .before .before .before
+start c = c .before .before .before .before .before .before .before .before .before .before
 
 abbrev book : tie.After-form2 → Book
-book c = let a = start c .args in bookOf (a .ids .now) (a .lengths .now) (a .store .now) (a .received .now) (a .sent .now) (a .rows)
+book c = let a = start c .args in bookOf (a .ids .now) (a .lengths .now) (a .store .now) (a .marks .now) (a .received .now) (a .sent .now) (a .rows)
 
 full : (c : tie.After-form2) → Full (c .form2 .given .0 .0) ≡ admittedForm (book c) (start c .args .message .now)
 full c = sym (c .form2 .given .1) ∙ c .before .before .admitted .ensures

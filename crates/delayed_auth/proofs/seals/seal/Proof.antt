@@ -11,10 +11,10 @@ use Rattle.delayed_auth.proofs.seals.seal.Tie as tie
 -- ---- what is known where the plan is ready
 
 abbrev start : tie.After-plan2 → tie.Start
-start c = c .before .before .before .before .before .before .before .before .before .before .before
+start c = c .before .before .before .before .before .before .before .before .before .before .before .before
 
 abbrev book : tie.Start → Book
-book s = let a = s .args in bookOf (a .ids .now) (a .lengths .now) (a .store .now) (a .received .now) (a .sent .now) (a .rows)
+book s = let a = s .args in bookOf (a .ids .now) (a .lengths .now) (a .store .now) (a .marks .now) (a .received .now) (a .sent .now) (a .rows)
 
 ready : (c : tie.After-plan2)
     → let s = start c in ReadyFacts (book s) (s .args .message .now) (c .plan2 .given .0 .0) (c .plan2 .given .0 .1 .0)

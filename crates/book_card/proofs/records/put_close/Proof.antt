@@ -1,8 +1,8 @@
 -- `book_card::put_close` meets its contract: the fields, written one after another, are the close (proofs/Puts.antt).
 use borrow.Author.Needs.{needs}
 use Rattle.book_card.proofs.Puts.{close-written}
-use Rattle.book_card.proofs.writing.put_close.Statement.{statement}
-use Rattle.book_card.proofs.writing.put_close.Tie as tie
+use Rattle.book_card.proofs.records.put_close.Statement.{statement}
+use Rattle.book_card.proofs.records.put_close.Tie as tie
 
 returns : tie.Need-returns
 returns c =
