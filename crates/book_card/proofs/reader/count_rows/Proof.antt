@@ -57,20 +57,6 @@ returns-6 c =
     let at-loop = after-front-at .before in
     count-low _ _ _ _ _ (at-loop .loop .inv) _ _ _ _ _ (sym (after-front2 .front2 .given .1) ∙ after-front-at .front-at .ensures) (search needs) (search needs)
 
-add-at : tie.Need-add-at Inv-loop μ-loop
-add-at c =
-    let after-front2 = c .before .before .before in
-    let after-front-at = after-front2 .before .before in
-    let at-loop = after-front-at .before in
-    let after-key-at = at-loop .before in
-    let after-shared-slice-known = after-key-at .before in
-    let start = after-shared-slice-known .before in
-    omega (
-      arith,
-      row-within _ _ _ _ _ (at-loop .loop .inv) _ _ _ _ _ (sym (after-front2 .front2 .given .1) ∙ after-front-at .front-at .ensures)
-          (bytes-lent (now (start .args .card)) (after-shared-slice-known .shared-slice-known .given)) _ (after-key-at .key-at .ensures),
-    )
-
 add-at-2 : tie.Need-add-at-2 Inv-loop μ-loop
 add-at-2 c =
     let after-front2 = c .before .before .before in
@@ -84,6 +70,10 @@ add-at-2 c =
       row-within _ _ _ _ _ (at-loop .loop .inv) _ _ _ _ _ (sym (after-front2 .front2 .given .1) ∙ after-front-at .front-at .ensures)
           (bytes-lent (now (start .args .card)) (after-shared-slice-known .shared-slice-known .given)) _ (after-key-at .key-at .ensures),
     )
+
+-- that sum without the key's size
+add-at : tie.Need-add-at Inv-loop μ-loop
+add-at c = omega (arith, add-at-2 c)
 
 loop-again : tie.Need-loop-again Inv-loop μ-loop
 loop-again c =

@@ -20,18 +20,19 @@ loop-holds c = summing-start _ _
 cast-size : tie.Need-cast-size Inv-loop μ-loop
 cast-size c = omega (arith, c .shared-slice-known2 .given (c .before .before .loop .row))
 
-add-size : tie.Need-add-size Inv-loop μ-loop
-add-size c = omega (arith, c .shared-slice-known2 .given (c .before .before .loop .row), c .before .before .before .key-at .ensures, size-new)
-
 add-size-2 : tie.Need-add-size-2 Inv-loop μ-loop
 add-size-2 c = omega (arith, c .shared-slice-known2 .given (c .before .before .loop .row), c .before .before .before .key-at .ensures, size-new)
 
+-- the row's part of that sum
+add-size : tie.Need-add-size Inv-loop μ-loop
+add-size c = omega (arith, add-size-2 c)
+
 loop-again : tie.Need-loop-again Inv-loop μ-loop
 loop-again c =
-    let after-mark-size = c .before .before .before in
-    let m = after-mark-size .key-at .ensures in
+    let after-key-at = c .before .before .before in
+    let m = after-key-at .key-at .ensures in
     summing-turn _ _ _ _ (c .before .before .loop .inv) (search needs) (omega (arith, c .shared-slice-known2 .given (c .before .before .loop .row)))
-    (after-mark-size .key-at .result) (omega arith)
+    (after-key-at .key-at .result) (omega arith)
 
 returns : tie.Need-returns Inv-loop μ-loop
 returns c = summing-end _ _ _ _ (c .before .loop .inv) (search needs)
