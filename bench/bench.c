@@ -1,10 +1,11 @@
 /*
- * Times the library beside OpenSSL: MD5, HMAC-MD5, a whole check and a whole seal. Then a check and a seal beside the
- * HMAC-MD5 that they contain, and how a check's time grows.
+ * Times the library beside OpenSSL: MD5, HMAC-MD5, a whole check and a whole seal, and MD5's work on one block, written
+ * out and by tables. Then a check and a seal beside the HMAC-MD5 that they contain, and how a check's time grows.
  *
  * How it measures. What is compared stands in one table and takes turns: each round times one batch of each, in another
  * order every round, so that whatever slows the machine meets all of them alike. A time is the median over all rounds,
- * for one call. Only the calls are timed: messages are sealed and counters reset between batches.
+ * for one call. Only the calls are timed: messages are sealed and counters reset between batches. A batch takes about
+ * 20,000 bytes, or one longer message, which is 20 microseconds or more, so that reading the clock doesn't show; its messages fit the cache.
  *
  * A check stores its counter, and the same message would be refused the second time. So a batch checks a lot of messages
  * sealed with rising counters, and the stored counter is set back before the next batch. Every call must return 0.
@@ -23,13 +24,15 @@
 #include <string.h>
 #include <time.h>
 
-#define ROUNDS 1001 /* odd, so that there is a middle one */
-#define LOT 16      /* messages in a batch of checks or seals */
+#define ROUNDS 4001 /* odd, so that there is a middle one */
+#define BATCH_BYTES 20000
 #define MOST_WORKS 8
 
 #define ROWS_MOST 64
 #define SLOT 64
+#define MESSAGE_LEAST 277
 #define MESSAGE_MOST 1472
+#define LOT_MOST (1 + BATCH_BYTES / MESSAGE_LEAST)
 #define DIGEST_MOST 65535
 #define KEY_SIZE 16
 
@@ -48,6 +51,12 @@ struct work {
     void *with;
     size_t calls;
 };
+
+/* How many calls make a batch, of so many bytes each. */
+static size_t batch_calls(size_t bytes)
+{
+    return 1 + BATCH_BYTES / bytes;
+}
 
 static double now_ns(void)
 {
@@ -93,13 +102,29 @@ static void measure(const struct work *works, size_t count, double *medians)
     }
 }
 
-/* One line: the first beside the second. */
-static void compare(const char *what, size_t bytes, const struct work works[2])
+/* The names over the columns of times, and a column for each ratio: of the first to each of the others. */
+static void print_head(const char *const *names, size_t count)
 {
-    double ns[2];
+    printf("%-14s %12s", "", "");
+    for (size_t i = 0; i < count; i++)
+        printf("  %13s", names[i]);
+    for (size_t i = 1; i < count; i++)
+        printf("  %6s", "ratio");
+    printf("\n");
+}
 
-    measure(works, 2, ns);
-    printf("%-10s %6zu bytes  %10.0f ns  %10.0f ns  %6.2f\n", what, bytes, ns[0], ns[1], ns[0] / ns[1]);
+/* One line: the first beside each of the others, all measured in the same rounds. */
+static void compare(const char *what, size_t bytes, const struct work *works, size_t count)
+{
+    double ns[MOST_WORKS];
+
+    measure(works, count, ns);
+    printf("%-14s %6zu bytes", what, bytes);
+    for (size_t i = 0; i < count; i++)
+        printf("  %10.1f ns", ns[i]);
+    for (size_t i = 1; i < count; i++)
+        printf("  %6.3f", ns[0] / ns[i]);
+    printf("\n");
 }
 
 /* ---- digests and MACs ---- */
@@ -143,33 +168,180 @@ static void our_macs(void *with)
             fail("a MAC was refused");
 }
 
-static void their_macs(void *with)
+/* HMAC-MD5 (RFC 2104) by hand, from OpenSSL's low-level MD5 calls over the key pads: `pad` has the
+   inner one, and is changed to the outer. */
+static void mac_over(uint8_t pad[64], const uint8_t *text, size_t size, uint8_t mac[16])
 {
-    struct input *in = with;
-    unsigned length;
+    MD5_CTX context;
+    uint8_t inner[16];
 
-    for (size_t i = 0; i < in->calls; i++)
-        HMAC(EVP_md5(), key, KEY_SIZE, in->bytes, in->size, in->out, &length);
+    MD5_Init(&context);
+    MD5_Update(&context, pad, 64);
+    MD5_Update(&context, text, size);
+    MD5_Final(inner, &context);
+    for (size_t i = 0; i < 64; i++)
+        pad[i] ^= 0x36 ^ 0x5c;
+    MD5_Init(&context);
+    MD5_Update(&context, pad, 64);
+    MD5_Update(&context, inner, 16);
+    MD5_Final(mac, &context);
 }
 
-/* Times two ways to compute the same 16 bytes, once they are seen to agree. */
-static void compare_digests(const char *what, size_t size, void (*ours)(void *), void (*theirs)(void *))
+/* The inner pad made quickly: the compiler takes 16 bytes at a time. */
+static void low_level_mac(const uint8_t *text, size_t size, uint8_t mac[16])
+{
+    uint8_t pad[64];
+
+    memset(pad, 0x36, 64);
+    for (size_t i = 0; i < KEY_SIZE; i++)
+        pad[i] ^= key[i];
+    mac_over(pad, text, size, mac);
+}
+
+/* The inner pad made with a test for each byte, which the compiler leaves so: a plain loop for a key of any length. */
+static void plain_mac(const uint8_t *text, size_t size, uint8_t mac[16])
+{
+    uint8_t pad[64];
+
+    for (size_t i = 0; i < 64; i++)
+        pad[i] = (i < KEY_SIZE ? key[i] : 0) ^ 0x36;
+    mac_over(pad, text, size, mac);
+}
+
+static void one_shot_mac(const uint8_t *text, size_t size, uint8_t mac[16])
+{
+    unsigned length;
+
+    HMAC(EVP_md5(), key, KEY_SIZE, text, size, mac, &length);
+}
+
+static void low_level_macs(void *with)
+{
+    struct input *in = with;
+
+    for (size_t i = 0; i < in->calls; i++)
+        low_level_mac(in->bytes, in->size, in->out);
+}
+
+static void plain_macs(void *with)
+{
+    struct input *in = with;
+
+    for (size_t i = 0; i < in->calls; i++)
+        plain_mac(in->bytes, in->size, in->out);
+}
+
+static void one_shot_macs(void *with)
+{
+    struct input *in = with;
+
+    for (size_t i = 0; i < in->calls; i++)
+        one_shot_mac(in->bytes, in->size, in->out);
+}
+
+/* Times ways to compute the same 16 bytes, once they are seen to agree. */
+static void compare_digests(const char *what, size_t size, void (*const *ways)(void *), size_t count)
 {
     static struct input in;
-    struct work works[2] = {{NULL, ours, &in, 0}, {NULL, theirs, &in, 0}};
+    struct work works[MOST_WORKS];
     uint8_t first[16];
 
     in.size = size;
-    in.calls = 1 + 16384 / size;
-    works[0].calls = works[1].calls = in.calls;
+    in.calls = batch_calls(size);
     for (size_t i = 0; i < size; i++)
         in.bytes[i] = (uint8_t)(i * 7 + i / 251);
-    ours(&in);
-    memcpy(first, in.out, 16);
-    theirs(&in);
-    if (memcmp(first, in.out, 16) != 0)
-        fail("the library and OpenSSL differ");
-    compare(what, size, works);
+    for (size_t i = 0; i < count; i++) {
+        works[i] = (struct work){NULL, ways[i], &in, in.calls};
+        memset(in.out, 0, 16);
+        ways[i](&in);
+        if (i == 0)
+            memcpy(first, in.out, 16);
+        else if (memcmp(first, in.out, 16) != 0)
+            fail("the library and OpenSSL differ");
+    }
+    compare(what, size, works, count);
+}
+
+/* ---- one block ---- */
+
+/* crates/timed_blocks: the four words, A first, become those after the block. Only this bench and a test call them. */
+void block_written_out(uint32_t words[4], const uint32_t block[16]);
+void block_by_table(uint32_t words[4], const uint32_t block[16]);
+
+#define CHAIN 16
+#define BLOCK_SIZE 64
+
+/* Blocks that come one after another, and the words so far. */
+struct chain {
+    uint32_t blocks[CHAIN][16];
+    uint32_t words[4];
+    MD5_CTX context; /* has the words of OpenSSL's side */
+};
+
+static void written_out(void *with)
+{
+    struct chain *chain = with;
+
+    for (size_t i = 0; i < batch_calls(BLOCK_SIZE); i++)
+        block_written_out(chain->words, chain->blocks[i % CHAIN]);
+}
+
+static void by_table(void *with)
+{
+    struct chain *chain = with;
+
+    for (size_t i = 0; i < batch_calls(BLOCK_SIZE); i++)
+        block_by_table(chain->words, chain->blocks[i % CHAIN]);
+}
+
+/* OpenSSL takes a block's bytes: those of its words as they lie here, with the lowest byte first. */
+static void their_blocks(void *with)
+{
+    struct chain *chain = with;
+
+    for (size_t i = 0; i < batch_calls(BLOCK_SIZE); i++)
+        MD5_Transform(&chain->context, (const unsigned char *)chain->blocks[i % CHAIN]);
+}
+
+/* Both sides have the words that MD5 starts with. */
+static void start_words(struct chain *chain)
+{
+    MD5_Init(&chain->context);
+    chain->words[0] = chain->context.A;
+    chain->words[1] = chain->context.B;
+    chain->words[2] = chain->context.C;
+    chain->words[3] = chain->context.D;
+}
+
+/* Sees that a way goes from the start to the words that OpenSSL comes to. */
+static void see_same_words(struct chain *chain, void (*way)(void *))
+{
+    const MD5_CTX *theirs = &chain->context;
+    const uint32_t *ours = chain->words;
+
+    start_words(chain);
+    way(chain);
+    their_blocks(chain);
+    if (ours[0] != theirs->A || ours[1] != theirs->B || ours[2] != theirs->C || ours[3] != theirs->D)
+        fail("the library's block and OpenSSL's differ");
+}
+
+static void compare_blocks(void)
+{
+    static const char *const names[] = {"written out", "by tables", "MD5_Transform"};
+    static struct chain chain;
+    size_t calls = batch_calls(BLOCK_SIZE);
+    struct work works[3] = {
+        {NULL, written_out, &chain, calls}, {NULL, by_table, &chain, calls}, {NULL, their_blocks, &chain, calls}};
+
+    for (size_t i = 0; i < CHAIN * 16; i++)
+        chain.blocks[i / 16][i % 16] = (uint32_t)(i * 2654435761u);
+    see_same_words(&chain, written_out);
+    see_same_words(&chain, by_table);
+    printf("\nMD5's work on one block, %zu in a row over %d different ones, each beginning with the words that the last one\n"
+           "left:\n", calls, CHAIN);
+    print_head(names, 3);
+    compare("one block", BLOCK_SIZE, works, 3);
 }
 
 /* ---- checks and seals ---- */
@@ -184,12 +356,13 @@ struct book {
     size_t rows;
 };
 
-/* Messages under the last row of a book, all of whose rows are heard, sealed with the counters 1 to LOT. */
+/* Messages under the last row of a book, sealed with the counters from 1 on. All rows are heard, as it is made. */
 struct lot {
     struct book book;
-    uint8_t messages[LOT][MESSAGE_MOST];
-    uint8_t images[LOT][MESSAGE_MOST]; /* what each message's MAC covers */
+    uint8_t messages[LOT_MOST][MESSAGE_MOST];
+    uint8_t images[LOT_MOST][MESSAGE_MOST]; /* what each message's MAC covers */
     size_t size;
+    size_t count;
     uint8_t out[16];
 };
 
@@ -214,26 +387,45 @@ static uint8_t check(struct lot *lot, size_t i)
 
 static void our_seals(void *with)
 {
-    for (size_t i = 0; i < LOT; i++)
-        if (seal(with, i) != 0)
+    struct lot *lot = with;
+
+    for (size_t i = 0; i < lot->count; i++)
+        if (seal(lot, i) != 0)
             fail("a seal was refused");
 }
 
 static void our_checks(void *with)
 {
-    for (size_t i = 0; i < LOT; i++)
-        if (check(with, i) != 0)
+    struct lot *lot = with;
+
+    for (size_t i = 0; i < lot->count; i++)
+        if (check(lot, i) != 0)
             fail("a check was refused");
 }
 
-/* OpenSSL's MAC of the same bytes. */
-static void their_lot(void *with)
+/* OpenSSL's MACs of the same bytes. */
+static void low_level_lot(void *with)
 {
     struct lot *lot = with;
-    unsigned length;
 
-    for (size_t i = 0; i < LOT; i++)
-        HMAC(EVP_md5(), key, KEY_SIZE, lot->messages[i], lot->size, lot->out, &length);
+    for (size_t i = 0; i < lot->count; i++)
+        low_level_mac(lot->messages[i], lot->size, lot->out);
+}
+
+static void plain_lot(void *with)
+{
+    struct lot *lot = with;
+
+    for (size_t i = 0; i < lot->count; i++)
+        plain_mac(lot->messages[i], lot->size, lot->out);
+}
+
+static void one_shot_lot(void *with)
+{
+    struct lot *lot = with;
+
+    for (size_t i = 0; i < lot->count; i++)
+        one_shot_mac(lot->messages[i], lot->size, lot->out);
 }
 
 /* The library's own MAC of what each message's covers. */
@@ -241,7 +433,7 @@ static void our_lot(void *with)
 {
     struct lot *lot = with;
 
-    for (size_t i = 0; i < LOT; i++)
+    for (size_t i = 0; i < lot->count; i++)
         if (rimemagpie_hmac(key, KEY_SIZE, lot->images[i], lot->size, lot->out) != 0)
             fail("a MAC was refused");
 }
@@ -282,22 +474,30 @@ static void make_message(uint8_t *message, size_t size, enum filling filling)
     message[at + 33] = 255;
 }
 
-/* What the MAC of a sealed message covers: its own place is zero. (So are hops and giaddr, and there's no option 82.) */
+/* What the MAC of a sealed message covers: its own place is zero. (So are hops and giaddr, and there's no option 82.)
+   The library's HMAC-MD5 and all of OpenSSL's are seen to give that MAC. */
 static void make_image(uint8_t *image, const uint8_t *message, size_t size, enum filling filling)
 {
-    uint8_t *mac = image + authentication_at(size, filling) + 17;
-    uint8_t found[16];
+    size_t at = authentication_at(size, filling) + 17;
+    uint8_t found[4][16];
 
     memcpy(image, message, size);
-    memset(mac, 0, 16);
-    if (rimemagpie_hmac(key, KEY_SIZE, image, size, found) != 0 || memcmp(found, message + (mac - image), 16) != 0)
-        fail("a message's MAC is not that of its image");
+    memset(image + at, 0, 16);
+    if (rimemagpie_hmac(key, KEY_SIZE, image, size, found[0]) != 0)
+        fail("a MAC was refused");
+    low_level_mac(image, size, found[1]);
+    plain_mac(image, size, found[2]);
+    one_shot_mac(image, size, found[3]);
+    for (size_t i = 0; i < 4; i++)
+        if (memcmp(found[i], message + at, 16) != 0)
+            fail("a message's MAC is not that of its image");
 }
 
 static void make_lot(struct lot *lot, size_t rows, size_t size, enum filling filling)
 {
     memset(lot, 0, sizeof *lot);
     lot->size = size;
+    lot->count = batch_calls(size);
     lot->book.rows = rows;
     for (size_t k = 0; k < rows; k++) {
         lot->book.ids[k] = (uint32_t)(100 + k);
@@ -305,38 +505,67 @@ static void make_lot(struct lot *lot, size_t rows, size_t size, enum filling fil
         lot->book.marks[k] = RIMEMAGPIE_HEARD;
         memcpy(lot->book.store + k * SLOT, key, KEY_SIZE);
     }
-    for (size_t i = 0; i < LOT; i++)
+    for (size_t i = 0; i < lot->count; i++)
         make_message(lot->messages[i], size, filling);
     our_seals(lot);
-    for (size_t i = 0; i < LOT; i++)
+    for (size_t i = 0; i < lot->count; i++)
         make_image(lot->images[i], lot->messages[i], size, filling);
+}
+
+static struct work checks_of(struct lot *lot)
+{
+    return (struct work){forget_received, our_checks, lot, lot->count};
+}
+
+static struct work seals_of(struct lot *lot)
+{
+    return (struct work){forget_sent, our_seals, lot, lot->count};
+}
+
+/* A check, or a seal, beside OpenSSL's MACs of the same bytes. */
+static void compare_with_openssl(const char *what, struct lot *lot, struct work ours)
+{
+    struct work works[4] = {ours,
+                            {NULL, low_level_lot, lot, lot->count},
+                            {NULL, plain_lot, lot, lot->count},
+                            {NULL, one_shot_lot, lot, lot->count}};
+
+    compare(what, lot->size, works, 4);
 }
 
 static void compare_checks_and_seals(size_t size)
 {
     static struct lot lot;
-    struct work checks[2] = {{forget_received, our_checks, &lot, LOT}, {NULL, their_lot, &lot, LOT}};
-    struct work seals[2] = {{forget_sent, our_seals, &lot, LOT}, {NULL, their_lot, &lot, LOT}};
 
     make_lot(&lot, 1, size, BYTES_AFTER_END);
-    compare("check", size, checks);
-    compare("seal", size, seals);
+    compare_with_openssl("check", &lot, checks_of(&lot));
+    compare_with_openssl("seal", &lot, seals_of(&lot));
 }
 
+static void compare_many_rows(void)
+{
+    static struct lot lot;
+
+    make_lot(&lot, ROWS_MOST, 300, BYTES_AFTER_END);
+    compare_with_openssl("check, 64 rows", &lot, checks_of(&lot));
+    compare_with_openssl("seal, 64 rows", &lot, seals_of(&lot));
+    lot.book.marks[0] = RIMEMAGPIE_NOT_HEARD; /* so that soundness looks at the received counters too */
+    compare_with_openssl("one not heard", &lot, checks_of(&lot));
+}
+
+/* A check, or a seal, beside the library's own MAC of what the message's covers. */
 static void compare_with_own_mac(size_t size)
 {
     static struct lot lot;
-    struct work checks[2] = {{forget_received, our_checks, &lot, LOT}, {NULL, our_lot, &lot, LOT}};
-    struct work seals[2] = {{forget_sent, our_seals, &lot, LOT}, {NULL, our_lot, &lot, LOT}};
 
     make_lot(&lot, 1, size, BYTES_AFTER_END);
-    compare("check", size, checks);
-    compare("seal", size, seals);
+    compare("check", size, (struct work[]){checks_of(&lot), {NULL, our_lot, &lot, lot.count}}, 2);
+    compare("seal", size, (struct work[]){seals_of(&lot), {NULL, our_lot, &lot, lot.count}}, 2);
 }
 
 static void growth_with_length(const char *what, enum filling filling)
 {
-    static const size_t sizes[] = {277, 300, 500, 700, 900, 1100, 1300, 1472};
+    static const size_t sizes[] = {MESSAGE_LEAST, 300, 500, 700, 900, 1100, 1300, 1472};
     enum { COUNT = sizeof sizes / sizeof sizes[0] };
     static struct lot lots[COUNT];
     struct work works[COUNT];
@@ -344,12 +573,12 @@ static void growth_with_length(const char *what, enum filling filling)
 
     for (size_t i = 0; i < COUNT; i++) {
         make_lot(&lots[i], 1, sizes[i], filling);
-        works[i] = (struct work){forget_received, our_checks, &lots[i], LOT};
+        works[i] = checks_of(&lots[i]);
     }
     measure(works, COUNT, ns);
     printf("\nA check by message length (one row, %s):\n", what);
     for (size_t i = 0; i < COUNT; i++)
-        printf("  %5zu bytes  %8.0f ns  %5.2f times the first\n", sizes[i], ns[i], ns[i] / ns[0]);
+        printf("  %5zu bytes  %8.0f ns  %6.3f times the first\n", sizes[i], ns[i], ns[i] / ns[0]);
 }
 
 static void growth_with_rows(void)
@@ -362,18 +591,18 @@ static void growth_with_rows(void)
 
     for (size_t i = 0; i < COUNT; i++) {
         make_lot(&lots[i], rows[i], 300, BYTES_AFTER_END);
-        works[i] = (struct work){forget_received, our_checks, &lots[i], LOT};
+        works[i] = checks_of(&lots[i]);
     }
     measure(works, COUNT, ns);
     printf("\nA check by rows in use (300 bytes, the last row named):\n");
     for (size_t i = 0; i < COUNT; i++)
-        printf("  %5zu rows   %8.0f ns  %5.2f times the first\n", rows[i], ns[i], ns[i] / ns[0]);
+        printf("  %5zu rows   %8.0f ns  %6.3f times the first\n", rows[i], ns[i], ns[i] / ns[0]);
 }
 
 /* Puts an option 82 with a body of 30 bytes at an offset of each message, as a relay does: what the MAC covers stays. */
 static void relay(struct lot *lot, size_t at)
 {
-    for (size_t i = 0; i < LOT; i++) {
+    for (size_t i = 0; i < lot->count; i++) {
         uint8_t *there = lot->messages[i] + at;
 
         memmove(there + 32, there, lot->size - at);
@@ -394,39 +623,67 @@ static void relayed_or_not(void)
 
     for (size_t i = 0; i < COUNT; i++) {
         make_lot(&lots[i], 1, 300, BYTES_AFTER_END);
-        works[i] = (struct work){forget_received, our_checks, &lots[i], LOT};
+        works[i] = checks_of(&lots[i]);
     }
     relay(&lots[1], authentication_at(300, BYTES_AFTER_END));
     relay(&lots[2], authentication_at(300, BYTES_AFTER_END) + 33);
     measure(works, COUNT, ns);
     printf("\nA check by option 82 (300 bytes and an option 82 of 32, one row):\n");
     for (size_t i = 0; i < COUNT; i++)
-        printf("  %-18s %8.0f ns  %5.2f times the first\n", what[i], ns[i], ns[i] / ns[0]);
+        printf("  %-18s %8.0f ns  %6.3f times the first\n", what[i], ns[i], ns[i] / ns[0]);
+}
+
+static void compare_all_digests(void)
+{
+    static void (*const ways[])(void *) = {our_digests, their_digests};
+    static const char *const names[] = {"Rimemagpie", "OpenSSL"};
+    static const size_t sizes[] = {64, 300, 1472, DIGEST_MOST};
+
+    printf("\nMD5 beside OpenSSL's MD5_Init, MD5_Update, MD5_Final:\n");
+    print_head(names, 2);
+    for (size_t i = 0; i < sizeof sizes / sizeof sizes[0]; i++)
+        compare_digests("MD5", sizes[i], ways, 2);
+}
+
+static void compare_all_macs(void)
+{
+    static void (*const ways[])(void *) = {our_macs, low_level_macs, plain_macs, one_shot_macs};
+    static const char *const names[] = {"Rimemagpie", "low-level", "plain pad", "one-shot"};
+    /* The last is the largest message that HMAC takes: 64 bytes of the inner digest's total are the key's. */
+    static const size_t sizes[] = {64, 300, 1472, DIGEST_MOST - 64};
+
+    printf("\nHMAC-MD5, a whole check and a whole seal beside OpenSSL's HMAC-MD5 of the same bytes, which judges and\n"
+           "stores nothing: low-level, by hand from its MD5 calls over the key pads; the same with a plain loop over the\n"
+           "inner pad's bytes; and its one-shot HMAC(). One row is in use, where no other number is given; the last line has 64\n"
+           "rows, one of them not heard:\n");
+    print_head(names, 4);
+    for (size_t i = 0; i < sizeof sizes / sizeof sizes[0]; i++)
+        compare_digests("HMAC-MD5", sizes[i], ways, 4);
+    compare_checks_and_seals(300);
+    compare_checks_and_seals(1472);
+    compare_many_rows();
+}
+
+static void compare_all_with_own_mac(void)
+{
+    static const char *const names[] = {"whole", "HMAC-MD5"};
+
+    printf("\nA whole check and a whole seal beside the HMAC-MD5 in them, Rimemagpie's own of the covered image:\n");
+    print_head(names, 2);
+    compare_with_own_mac(300);
+    compare_with_own_mac(1472);
 }
 
 int main(void)
 {
-    static const size_t sizes[] = {64, 300, 1472};
-
     printf("Beside:  %s\n", OpenSSL_version(OPENSSL_VERSION));
     printf("Medians of %d rounds, taken in turns. Buffers: no result buffer is cleared before a call, on either side;\n"
-           "inputs are in the cache. What a side clears inside its own calls is in its time.\n\n", ROUNDS);
-    printf("%-10s %12s  %13s  %13s  %6s\n", "", "", "Rimemagpie", "OpenSSL", "ratio");
-    for (size_t i = 0; i < 3; i++)
-        compare_digests("MD5", sizes[i], our_digests, their_digests);
-    compare_digests("MD5", DIGEST_MOST, our_digests, their_digests);
-    for (size_t i = 0; i < 3; i++)
-        compare_digests("HMAC-MD5", sizes[i], our_macs, their_macs);
-    /* The largest message that HMAC takes: 64 bytes of the inner digest's total are the key's. */
-    compare_digests("HMAC-MD5", DIGEST_MOST - 64, our_macs, their_macs);
-    compare_checks_and_seals(300);
-    compare_checks_and_seals(1472);
-    printf("MD5: OpenSSL's MD5_Init, MD5_Update, MD5_Final. HMAC-MD5, check and seal: OpenSSL's one-shot HMAC() of the\n"
-           "same bytes, which judges and stores nothing. A ratio below 1 says that Rimemagpie is faster.\n");
-    printf("\nA whole check and a whole seal beside the HMAC-MD5 in them, Rimemagpie's own of the covered image:\n");
-    printf("%-10s %12s  %13s  %13s  %6s\n", "", "", "whole", "HMAC-MD5", "ratio");
-    compare_with_own_mac(300);
-    compare_with_own_mac(1472);
+           "inputs are in the cache. What a side clears inside its own calls is in its time. Ratios are those of the\n"
+           "first time in a line to each of the others: below 1 says that the first is faster.\n", ROUNDS);
+    compare_all_digests();
+    compare_all_macs();
+    compare_blocks();
+    compare_all_with_own_mac();
     growth_with_length("bytes after End", BYTES_AFTER_END);
     growth_with_length("pads before option 90", PADS_FIRST);
     growth_with_rows();

@@ -1,11 +1,13 @@
-//! Finds libdigest_steps.a, which tests/digests.rs links: in target/staticlib, or in the folder
-//! that RIMEMAGPIE_LIB_DIR names; a relative folder is taken from the top of the repository.
+//! Finds libdigest_steps.a and libtimed_blocks.a, which tests/digests.rs and tests/blocks.rs
+//! link: in target/staticlib, or in the folder that RIMEMAGPIE_LIB_DIR names; a relative folder is
+//! taken from the top of the repository.
 
 use std::env;
 use std::path::Path;
 use std::process::exit;
 
-const LIBRARY: &str = "libdigest_steps.a";
+/// The crates whose libraries are linked.
+const CRATES: [&str; 2] = ["digest_steps", "timed_blocks"];
 
 fn main() {
     println!("cargo:rerun-if-env-changed=RIMEMAGPIE_LIB_DIR");
@@ -13,12 +15,14 @@ fn main() {
     let folder = Path::new(env!("CARGO_MANIFEST_DIR"))
         .join("../..")
         .join(named);
-    let library = folder.join(LIBRARY);
-    if !library.is_file() {
-        eprintln!("The library is not at {}.", library.display());
-        eprintln!("Build it first: rt staticlib digest_steps");
-        exit(1);
+    for name in CRATES {
+        let library = folder.join(format!("lib{name}.a"));
+        if !library.is_file() {
+            eprintln!("The library is not at {}.", library.display());
+            eprintln!("Build it first: rt staticlib {name}");
+            exit(1);
+        }
+        println!("cargo:rerun-if-changed={}", library.display());
     }
-    println!("cargo:rerun-if-changed={}", library.display());
     println!("cargo:rustc-link-search=native={}", folder.display());
 }

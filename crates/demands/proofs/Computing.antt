@@ -3,8 +3,9 @@
 use Prim.Native.Nat.{ℕ}
 use Rattle.octets.specs.Bytes.{written, filled}
 use Rattle.octets.specs.Numbers.{le, value, littleAt, be, bigAt}
-use Rattle.md5.specs.Word.{rotl, auxiliary, wordNo, additive, rotations}
-use Rattle.md5.specs.Block.{stepWith, stepAt, steps, round, compress, loadTo, load, blocks}
+use Rattle.md5_block.specs.Word.{rotl, auxiliary, wordNo, additive, rotations}
+use Rattle.md5_block.specs.Block.{stepWith, stepAt, steps, round, compress}
+use Rattle.md5.specs.Block.{loadTo, load, blocks}
 use Rattle.md5.specs.Message.{md5, padded, padding, output}
 use Rattle.hmac_md5.specs.Hmac.{masked, hmac}
 use Rattle.dhcp_message.specs.Options.{decodeAt}

@@ -6,7 +6,7 @@ ghost use Rattle.digest_steps.specs.State.{stateOf, fourWords};
 use md5::BLOCK_SIZE;
 use md5::DIGEST_SIZE;
 use md5::Digest;
-use md5::Words;
+use md5_block::Words;
 
 // The state of four words, a tail and a total.
 fn state_of(words: &[u32; 4], tail: &[u8; BLOCK_SIZE], total: u64) -> Digest

@@ -1,5 +1,5 @@
 -- A test of every number below a bound (`allBelow`): what it says when it holds and when it fails, and what a loop over it keeps.
-use mathlib.Core.Path.{_≡_, refl, sym, _∙_, ap₂}
+use mathlib.Core.Path.{_≡_, refl, sym, _∙_, ap, ap₂}
 use mathlib.Core.Logic.{⊎-elim}
 use mathlib.Core.Bool.{Bool, true, false, _&&_, and-eq-true-iff, true≢false}
 use Prim.Native.Nat.{ℕ, zero, suc, _+_, _≤_, _<_}
@@ -29,25 +29,26 @@ module _ (p : ℕ → Bool) where
   all-holds zero h = refl
   all-holds (suc n) h = both (allBelow p n) (p n) (all-holds n (λ k l. h k (omega arith))) (h n (omega arith))
 
-  -- a loop that has passed the first k of n
-  pub record Passed (n k : ℕ) : Type 0 where
+  -- a loop over the first n that is at k: its flag is whether the test held of all before
+  pub record Passed (n : ℕ) (flag : Bool) (k : ℕ) : Type 0 where
     pub within : k ≤ n
-    pub held : allBelow p k ≡ true
+    pub held : flag ≡ allBelow p k
 
   module _ (n : ℕ) where
-    pub pass-start : Passed n 0
+    pub pass-start : Passed n true 0
     unfolding allBelow
     pass-start = record { within = omega arith; held = refl }
 
-    pub pass-turn : (k : ℕ) → Passed n k → k < n → p k ≡ true → Passed n (k + 1)
+    -- `next` is the flag behind a turn, however the code computes it
+    pub pass-turn : {flag next : Bool} {k : ℕ} → Passed n flag k → k < n → next ≡ (flag && p k) → Passed n next (k + 1)
     unfolding allBelow
-    pass-turn k s h e = record { within = omega arith; held = rw add-one (both (allBelow p k) (p k) (s .held) e) }
+    pass-turn {flag} {next} {k} s h e = record { within = omega arith; held = rw add-one (e ∙ ap (λ (t : Bool). t && p k) (s .held)) }
 
-    pub pass-fails : (k : ℕ) → k < n → p k ≡ false → false ≡ allBelow p n
-    pass-fails k h f = is-false (allBelow p n) (λ e. true≢false (sym (all-says n e k h) ∙ f))
+    pub pass-end : {flag : Bool} {k : ℕ} → Passed n flag k → n ≤ k → flag ≡ allBelow p n
+    pass-end {flag} {k} s h = let e : n ≡ k = omega arith in rw e (s .held)
 
-    pub pass-end : (k : ℕ) → Passed n k → n ≤ k → true ≡ allBelow p n
-    pass-end k s h = let e : n ≡ k = omega arith in rw e (sym (s .held))
+    pub pass-fails : {k : ℕ} → k < n → false ≡ p k → false ≡ allBelow p n
+    pass-fails {k} h f = is-false (allBelow p n) (λ e. true≢false (sym (f ∙ all-says n e k h)))
 
 -- two tests that agree below the bound
 pub all-alike : (p q : ℕ → Bool) (n : ℕ) → ((k : ℕ) → k < n → p k ≡ q k) → allBelow p n ≡ allBelow q n

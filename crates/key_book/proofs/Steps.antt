@@ -1,17 +1,18 @@
--- Soundness step by step: the ends of `sizes_agree`, `mark_fits` and `is_sound`, and what the loops of `ids_ascend`, `keys_sized` and `marks_fit` pass.
+-- Soundness step by step: the ends of `sizes_agree`, `mark_fits` and `is_sound`, and what the loops of `ids_ascend`, `keys_sized`, `marks_heard` and
+-- `marks_fit` test and end with.
 use mathlib.Core.Path.{_≡_, sym, _∙_}
 use mathlib.Core.Logic.{_≢_}
 use mathlib.Core.Bool.{Bool, true, false, not}
 use mathlib.Core.List.{List}
 use Prim.Native.Nat.{ℕ, _+_, _-_, _*_, _≤_, _<_}
 use native.Mathlib.Omega.{arith}
-use borrow.Author.Tests.{eq-eqb, ne-eqb, le-leb, lt-leb, lt-ltb, le-ltb, not-true, not-false}
+use borrow.Author.Tests.{eq-eqb, ne-eqb, eqb-true, le-leb, not-true, not-false}
 use lib.Dec.{ltb, eqb}
 use lib.ListN.{length, getD}
 use Rattle.key_book.specs.Limits.{rowsMost, slotSize, roomMost, notHeard, heard}
-use Rattle.key_book.specs.Book.{Book, bookOf, Sized, Sound, sized, ascending, keySize, keySizes, markFits, marksFit, sound}
+use Rattle.key_book.specs.Book.{Book, bookOf, Sized, Sound, sized, ascending, keySize, keySizes, markFits, marksHeard, marksFit, sound}
 use Rattle.key_book.proofs.Says.{sized-says, sound-says}
-use Rattle.key_book.proofs.Below.{is-false, both, Passed, pass-turn, pass-fails, pass-end}
+use Rattle.key_book.proofs.Below.{is-false, all-says, all-holds, Passed, pass-end, pass-fails}
 
 pub not-sized : (b : Book) → (Sized b → ⊥) → false ≡ sized b
 not-sized b h = is-false (sized b) (λ e. h (sized-says b .0 e))
@@ -53,60 +54,6 @@ module _ (ids lengths store marks received sent : List ℕ) (rows : ℕ) (t : Bo
       unfolding sound sized
       sound-marks n u eu = rw (sym e ∙ not-false t g, le-leb _ _ h, le-leb _ _ k, sym ea ∙ not-false a f, sym er ∙ not-false r n) eu
 
--- an id is below the next
-abbrev pub rises : List ℕ → ℕ → Bool
-rises ids k = ltb (getD ids k 0) (getD ids (k + 1) 0)
-
-module _ (ids : List ℕ) (rows : ℕ) {k : ℕ} (s : Passed (rises ids) (rows - 1) k) where
-  pub rises-fails : k + 1 < rows → getD ids (k + 1) 0 ≤ getD ids k 0 → false ≡ ascending ids rows
-  unfolding ascending
-  rises-fails h l = pass-fails (rises ids) (rows - 1) k (omega arith) (le-ltb _ _ l)
-
-  pub rises-turn : k + 1 < rows → getD ids k 0 < getD ids (k + 1) 0 → Passed (rises ids) (rows - 1) (k + 1)
-  rises-turn h l = pass-turn (rises ids) (rows - 1) k s (omega arith) (lt-ltb _ _ l)
-
-  pub rises-end : rows ≤ k + 1 → true ≡ ascending ids rows
-  unfolding ascending
-  rises-end h = pass-end (rises ids) (rows - 1) k s (omega arith)
-
--- a key length is one
-abbrev pub keyed : List ℕ → ℕ → Bool
-keyed lengths k = keySize (getD lengths k 0)
-
-module _ (lengths : List ℕ) (rows : ℕ) {k : ℕ} (s : Passed (keyed lengths) rows k) where
-  pub keyed-empty : k < rows → getD lengths k 0 < 1 → false ≡ keySizes lengths rows
-  unfolding keySizes
-  keyed-empty h l = pass-fails (keyed lengths) rows k h (rw (lt-leb 1 _ l))
-
-  pub keyed-long : k < rows → 1 ≤ getD lengths k 0 → slotSize < getD lengths k 0 → false ≡ keySizes lengths rows
-  unfolding keySizes
-  keyed-long h f l = pass-fails (keyed lengths) rows k h (rw (le-leb 1 _ f, lt-leb _ slotSize l))
-
-  pub keyed-turn : k < rows → 1 ≤ getD lengths k 0 → getD lengths k 0 ≤ slotSize → Passed (keyed lengths) rows (k + 1)
-  keyed-turn h f l = pass-turn (keyed lengths) rows k s h (both _ _ (le-leb _ _ f) (le-leb _ _ l))
-
-  pub keyed-end : rows ≤ k → true ≡ keySizes lengths rows
-  unfolding keySizes
-  keyed-end h = pass-end (keyed lengths) rows k s h
-
--- a mark fits its counter
-abbrev pub fitting : List ℕ → List ℕ → ℕ → Bool
-fitting marks received k = markFits (getD marks k 0) (getD received k 0)
-
-module _ (marks received : List ℕ) (rows : ℕ) {k : ℕ} (s : Passed (fitting marks received) rows k) (h : k < rows) (t : Bool)
-    (e : t ≡ fitting marks received k)
-  where
-    pub fitting-fails : not t ≡ true → false ≡ marksFit marks received rows
-    unfolding marksFit
-    fitting-fails n = pass-fails (fitting marks received) rows k h (sym e ∙ not-true t n)
-
-    pub fitting-turn : not t ≡ false → Passed (fitting marks received) rows (k + 1)
-    fitting-turn n = pass-turn (fitting marks received) rows k s h (sym e ∙ not-false t n)
-
-pub fitting-end : (marks received : List ℕ) (rows : ℕ) {k : ℕ} → Passed (fitting marks received) rows k → rows ≤ k → true ≡ marksFit marks received rows
-unfolding marksFit
-fitting-end marks received rows {k} s h = pass-end (fitting marks received) rows k s h
-
 -- the ends of `mark_fits`
 module _ (mark received : ℕ) where
   pub fits-heard : mark ≡ heard → true ≡ markFits mark received
@@ -120,3 +67,47 @@ module _ (mark received : ℕ) where
   pub fits-fresh : mark ≢ heard → mark ≡ notHeard → eqb received 0 ≡ markFits mark received
   unfolding markFits
   fits-fresh n e = rw (ne-eqb mark heard n, eq-eqb mark notHeard e)
+
+-- an id is below the next
+abbrev pub rises : List ℕ → ℕ → Bool
+rises ids k = ltb (getD ids k 0) (getD ids (k + 1) 0)
+
+-- a key length is one
+abbrev pub keyed : List ℕ → ℕ → Bool
+keyed lengths k = keySize (getD lengths k 0)
+
+-- a row is heard
+abbrev pub isHeard : List ℕ → ℕ → Bool
+isHeard marks k = eqb (getD marks k 0) heard
+
+-- a mark fits its counter
+abbrev pub fitting : List ℕ → List ℕ → ℕ → Bool
+fitting marks received k = markFits (getD marks k 0) (getD received k 0)
+
+-- the ends of the loops, by their flags
+module _ {flag : Bool} (rows : ℕ) {k : ℕ} where
+  pub rises-end : (ids : List ℕ) → Passed (rises ids) (rows - 1) flag k → rows ≤ k + 1 → flag ≡ ascending ids rows
+  unfolding ascending
+  rises-end ids s h = pass-end (rises ids) (rows - 1) s (omega arith)
+
+  pub keyed-end : (lengths : List ℕ) → Passed (keyed lengths) rows flag k → rows ≤ k → flag ≡ keySizes lengths rows
+  unfolding keySizes
+  keyed-end lengths s h = pass-end (keyed lengths) rows s h
+
+  pub heard-end : (marks : List ℕ) → Passed (isHeard marks) rows flag k → rows ≤ k → flag ≡ marksHeard marks rows
+  unfolding marksHeard
+  heard-end marks s h = pass-end (isHeard marks) rows s h
+
+  pub fitting-end : (marks received : List ℕ) → Passed (fitting marks received) rows flag k → rows ≤ k → flag ≡ marksFit marks received rows
+  unfolding marksFit
+  fitting-end marks received s h = pass-end (fitting marks received) rows s h
+
+-- all rows are heard, whatever their counters
+pub heard-fit : (marks received : List ℕ) (rows : ℕ) → true ≡ marksHeard marks rows → true ≡ marksFit marks received rows
+unfolding marksHeard marksFit
+heard-fit marks received rows e =
+    sym (all-holds (fitting marks received) rows (λ k h. sym (fits-heard _ _ (eqb-true _ _ (all-says (isHeard marks) rows (sym e) k h)))))
+
+pub fitting-fails : (marks received : List ℕ) (rows : ℕ) {k : ℕ} → k < rows → false ≡ fitting marks received k → false ≡ marksFit marks received rows
+unfolding marksFit
+fitting-fails marks received rows h e = pass-fails (fitting marks received) rows h e

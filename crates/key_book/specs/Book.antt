@@ -87,6 +87,10 @@ keySizes lengths n = allBelow (λ k. keySize (getD lengths k 0)) n
 unfoldable pub markFits : ℕ → ℕ → Bool
 markFits mark received = cond (eqb mark heard) true (eqb mark notHeard && eqb received 0)
 
+-- the first n rows are heard
+unfoldable pub marksHeard : List ℕ → ℕ → Bool
+marksHeard marks n = allBelow (λ k. eqb (getD marks k 0) heard) n
+
 -- the marks of the first n rows fit their received counters
 unfoldable pub marksFit : List ℕ → List ℕ → ℕ → Bool
 marksFit marks received n = allBelow (λ k. markFits (getD marks k 0) (getD received k 0)) n

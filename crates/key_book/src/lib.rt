@@ -6,7 +6,7 @@
 ghost use mathlib.Core.Path.{_≡_};
 ghost use Prim.Native.Nat.{_≤_};
 ghost use lib.ListN.{length};
-ghost use Rattle.key_book.specs.Book.{bookOf, sized, ascending, keySizes, markFits, marksFit, sound, rowIn, foundOf};
+ghost use Rattle.key_book.specs.Book.{bookOf, sized, ascending, keySizes, markFits, marksHeard, marksFit, sound, rowIn, foundOf};
 ghost use Rattle.key_book.specs.Book.{keyIn, keyStart, movedOn};
 
 // The most rows in use.
@@ -62,38 +62,33 @@ pub fn sizes_agree(
     sent.len() == room
 }
 
-// Whether each of the first ids is below the next of them.
+// Whether each of the first ids is below the next of them. The loop has no way out: the compiler then compares several rows at a time.
 fn ids_ascend(ids: &[u32], rows: usize) -> bool
     requires { ⌜ rows ≤ length (now ids) ⌝ }
     ensures { λ r. ⌜ r ≡ ascending (now (ids .entry)) rows ⌝ }
 {
+    let mut ascend = true;
     let mut k: usize = 0;
     while k + 1 < rows {
-        if ids[k + 1] <= ids[k] {
-            return false;
-        }
+        ascend = ascend & (ids[k] < ids[k + 1]);
         k += 1;
     }
-    true
+    ascend
 }
 
-// Whether each of the first key lengths is 1 to SLOT_SIZE.
+// Whether each of the first key lengths is 1 to SLOT_SIZE. The loop has no way out, as in `ids_ascend`.
 fn keys_sized(lengths: &[u8], rows: usize) -> bool
     requires { ⌜ rows ≤ length (now lengths) ⌝ }
     ensures { λ r. ⌜ r ≡ keySizes (now (lengths .entry)) rows ⌝ }
 {
+    let mut sized = true;
     let mut k: usize = 0;
     while k < rows {
         let size = lengths[k] as usize;
-        if size < 1 {
-            return false;
-        }
-        if SLOT_SIZE < size {
-            return false;
-        }
+        sized = sized & (1 <= size) & (size <= SLOT_SIZE);
         k += 1;
     }
-    true
+    sized
 }
 
 // Whether a row's mark is one of the two, and its received counter 0 where it is not heard.
@@ -109,12 +104,30 @@ pub fn mark_fits(mark: u8, received: u64) -> bool
     received == 0
 }
 
-// Whether the mark of each of the first rows fits its received counter.
+// Whether each of the first rows is heard. The loop has no way out, as in `ids_ascend`.
+fn marks_heard(marks: &[u8], rows: usize) -> bool
+    requires { ⌜ rows ≤ length (now marks) ⌝ }
+    ensures { λ r. ⌜ r ≡ marksHeard (now (marks .entry)) rows ⌝ }
+{
+    let mut heard = true;
+    let mut k: usize = 0;
+    while k < rows {
+        heard = heard & (marks[k] == HEARD);
+        k += 1;
+    }
+    heard
+}
+
+// Whether the mark of each of the first rows fits its received counter. The marks alone come first: where all rows are heard any counters fit, so
+// these, at eight bytes a row, are looked at only where a row is not heard.
 fn marks_fit(marks: &[u8], received: &[u64], rows: usize) -> bool
     requires { ⌜ rows ≤ length (now marks) ⌝ }
     requires { ⌜ rows ≤ length (now received) ⌝ }
     ensures { λ r. ⌜ r ≡ marksFit (now (marks .entry)) (now (received .entry)) rows ⌝ }
 {
+    if marks_heard(marks, rows) {
+        return true;
+    }
     let mut k: usize = 0;
     while k < rows {
         if !mark_fits(marks[k], received[k]) {

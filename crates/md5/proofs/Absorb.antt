@@ -3,51 +3,36 @@ use mathlib.Core.Path.{_≡_, refl, sym, ap, ap₂, _∙_}
 use mathlib.Core.List.{List, [], _++_, append-assoc}
 use Prim.Native.Nat.{ℕ, _+_, _-_, _*_, _/_, _%_, _≤_, _<_}
 use native.Mathlib.Omega.{arith}
-use lib.ListN.{length, take, drop, length-append, length-drop, take-append-drop, drop-of-length-le}
+use lib.ListN.{length, take, drop, length-append, take-append-drop, drop-of-length-le}
 use lib.Seq.{length-take-le, drop-append-le, take-all, drop-drop}
 use Rattle.octets.specs.Bytes.{written, zeros, filled}
 use Rattle.octets.proofs.Written.{length-written, take-written, written-last}
 use Rattle.octets.proofs.Filled.{filled-parts, length-filled, take-filled, drop-filled, cleared-from}
-use Rattle.md5.specs.declared.Words.{Words}
+use Rattle.md5_block.specs.declared.Words.{Words}
 use Rattle.md5.specs.declared.Digest.{Digest}
-use Rattle.md5.specs.Block.{blockSize, compress, load, blocks}
+use Rattle.md5_block.specs.Block.{compress}
+use Rattle.md5.specs.Block.{blockSize, load, blocks, whole}
 use Rattle.md5.specs.Message.{start}
 use Rattle.md5.specs.Entries.{fresh, held, settle, absorb}
-use Rattle.md5.proofs.Blocks.{blocks-few, blocks-one, blocks-on}
+use Rattle.md5.proofs.Whole.{blocks-few, blocks-one, rest, length-rest, count-append, whole-append}
 
 -- ---- bytes b that are to be digested after the words w, of a total of n
-
--- what is left behind the whole blocks
-abbrev rest : List ℕ → List ℕ
-rest b = drop (length b / blockSize * blockSize) b
-
-length-rest : (b : List ℕ) → length (rest b) ≡ length b % blockSize
-length-rest b = length-drop (length b / blockSize * blockSize) b ∙ omega arith
-
--- the last bytes of s as the code takes them, from the last whole block on
-pub part-rest : (s : List ℕ) → let from = length s - length s % blockSize in take (length s - from) (drop from s) ≡ drop (length s / blockSize * blockSize) s
-part-rest s =
-    let from = length s - length s % blockSize in
-    let e : from ≡ length s / blockSize * blockSize = omega arith in
-    take-all (length s - from) (drop from s) (omega (arith, length-drop from s)) ∙ ap (λ (n : ℕ). drop n s) e
 
 settle-eq : (n : ℕ) {v w : Words} {b e : List ℕ} → v ≡ w → b ≡ e
     → _≡_ {A = Digest} (record { words = v; tail = filled blockSize b; total = n }) (record { words = w; tail = filled blockSize e; total = n })
 settle-eq n p q = λ i. record { words = p i; tail = filled blockSize (q i); total = n }
 
 -- the whole blocks of b may go first
-settle-append : (b t : List ℕ) (w : Words) (n : ℕ) → settle (rest b ++ t) (blocks (length b / blockSize) b w) n ≡ settle (b ++ t) w n
+settle-append : (b t : List ℕ) (w : Words) (n : ℕ) → settle (rest b ++ t) (whole b w) n ≡ settle (b ++ t) w n
 unfolding settle
 settle-append b t w n =
     let q : ℕ = length b / blockSize in
     let m : ℕ = length (rest b ++ t) / blockSize in
-    let k : q + m ≡ length (b ++ t) / blockSize = omega (arith, length-append b t, length-append (rest b) t, length-rest b) in
     let z : q * blockSize + m * blockSize ≡ (q + m) * blockSize = omega arith in
-    settle-eq n
-    (blocks-on q m b t w (omega arith) ∙ ap (λ (j : ℕ). blocks j (b ++ t) w) k)
+    settle-eq n (whole-append b t w)
     (ap (drop (m * blockSize)) (sym (drop-append-le (q * blockSize) b t (omega arith)))
     ∙ drop-drop (m * blockSize) (q * blockSize) (b ++ t)
-    ∙ ap (λ (j : ℕ). drop j (b ++ t)) (z ∙ ap (λ (j : ℕ). j * blockSize) k))
+    ∙ ap (λ (j : ℕ). drop j (b ++ t)) (z ∙ ap (λ (j : ℕ). j * blockSize) (count-append b t)))
 
 -- a block in front goes through the block function
 settle-block : (a t : List ℕ) (w : Words) (n : ℕ) → length a ≡ blockSize → settle (a ++ t) w n ≡ settle t (compress w (load a)) n
@@ -75,6 +60,10 @@ unfolding absorb settle fresh
 absorb-fresh s = refl
 
 -- ---- a state with a piece more
+
+pub absorb-words : (d : Digest) (s : List ℕ) → absorb d s .words ≡ whole (held d ++ s) (d .words)
+unfolding absorb settle
+absorb-words d s = refl
 
 pub absorb-total : (d : Digest) (s : List ℕ) → absorb d s .total ≡ d .total + length s
 unfolding absorb settle

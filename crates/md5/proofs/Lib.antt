@@ -1,6 +1,4 @@
-pub mod Table
-pub mod Rotations
-pub mod Blocks
+pub mod Whole
 pub mod Absorb
 pub mod Answers
 pub mod Promises

@@ -5,11 +5,9 @@ use Prim.Native.Nat.{ℕ, _+_, _≤_}
 use native.Mathlib.Decide.{decLe}
 use native.Mathlib.Omega.{arith}
 use lib.ListN.{length, length-append}
-use Rattle.refusal.specs.Number.{done}
 use Rattle.md5.specs.declared.Digest.{Digest}
 use Rattle.md5.specs.declared.Fed.{Fed}
 use Rattle.md5.specs.Block.{blockSize}
-use Rattle.md5.specs.Message.{md5}
 use Rattle.md5.specs.Entries.{digestMost, fresh, absorb, feedOf, finishOf}
 use Rattle.md5.specs.Promises.{fedAll, joined, AnyCutting, PiecesTaken, TailZero, RefusedKept, PaddedSize}
 use Rattle.md5.proofs.Absorb.{fresh-long, fresh-total, absorb-none, absorb-total, absorb-append, tail-absorbed}
@@ -34,14 +32,6 @@ from-fresh ps h = ap (λ (d : Digest). fedAll d ps) (sym absorb-none) ∙ fed-al
 
 pub any-cutting : AnyCutting
 any-cutting pieces h = ap finishOf (from-fresh pieces h) ∙ md5-of-fresh (joined pieces) h
-
--- two pieces
-pub two-pieces : (a b : List ℕ) → length (a ++ b) ≤ digestMost
-    → finishOf (feedOf (feedOf fresh a .state) b .state) ≡ record { number = done; digest = md5 (a ++ b) }
-unfolding fedAll joined
-two-pieces a b h =
-    let e : a ++ (b ++ []) ≡ a ++ b = ap (λ (l : List ℕ). a ++ l) (append-nil b) in
-    any-cutting (a ∷ b ∷ []) (rw e h) ∙ rw e
 
 pub pieces-taken : PiecesTaken
 pieces-taken pieces piece h =

@@ -1,13 +1,23 @@
-// MD5 (RFC 1321) over bytes that come in pieces, with a limit on their total (docs/RULES.md, 'Digests').
-// Not here: the block written out by round, and a digest that the caller lends.
-mod block;
+// MD5 (RFC 1321) over bytes that come in pieces, with a limit on their total (docs/RULES.md, 'Digests'); and its parts, for HMAC, which begins two
+// messages with a block that the key makes.
+// Not here: the work on one block (md5_block), and a digest that the caller lends.
+mod blocks;
 mod pieces;
-mod word;
 
+pub use pieces::bytes_of;
 ghost use mathlib.Core.Path.{_≡_};
-ghost use Rattle.md5.specs.Entries.{fresh, feedOf, finishOf, md5Of};
+ghost use Rattle.refusal.specs.Number.{numberOf};
+ghost use Rattle.refusal.specs.declared.Refusal.the-variants.{TooLong};
+ghost use Rattle.md5_block.specs.Block.{compress};
+ghost use Rattle.md5.specs.Block.{load};
+ghost use Rattle.md5.specs.Message.{start};
+ghost use Rattle.md5.specs.Entries.{noDigest, fresh, feedOf, finishOf, md5Of, afterRest};
+use crate::blocks::all_blocks;
+use crate::blocks::ended;
+use crate::blocks::words_of;
 use crate::pieces::absorbed;
-use crate::pieces::bytes_of;
+use md5_block::Words;
+use md5_block::block;
 use refusal::Refusal;
 
 // The most bytes that one digest takes.
@@ -17,14 +27,6 @@ pub const DIGEST_MOST: usize = 65535;
 pub const BLOCK_SIZE: usize = 64;
 
 pub const DIGEST_SIZE: usize = 16;
-
-// RFC 1321, section 3.3: the four words A, B, C and D.
-pub struct Words {
-    pub a: u32,
-    pub b: u32,
-    pub c: u32,
-    pub d: u32,
-}
 
 // A digest in progress. Of the tail the first total % BLOCK_SIZE bytes count; the rest are 0 after each piece taken.
 pub struct Digest {
@@ -45,18 +47,35 @@ pub struct Finished {
     pub digest: [u8; DIGEST_SIZE],
 }
 
+// RFC 1321, section 3.3: the words before the first block.
+fn start_words() -> Words
+    ensures { λ v. ⌜ v ≡ start ⌝ }
+{
+    Words {
+        a: 0x67452301,
+        b: 0xefcdab89,
+        c: 0x98badcfe,
+        d: 0x10325476,
+    }
+}
+
+// What finishing gives past the limit.
+fn refused() -> Finished
+    ensures { λ v. ⌜ v ≡ record { number = numberOf TooLong; digest = noDigest } ⌝ }
+{
+    Finished {
+        number: refusal::number(Refusal::TooLong),
+        digest: [0u8; DIGEST_SIZE],
+    }
+}
+
 impl Digest {
     // A fresh state.
     pub fn begin() -> Digest
         ensures { λ v. ⌜ v ≡ fresh ⌝ }
     {
         Digest {
-            words: Words {
-                a: 0x67452301,
-                b: 0xefcdab89,
-                c: 0x98badcfe,
-                d: 0x10325476,
-            },
+            words: start_words(),
             tail: [0u8; BLOCK_SIZE],
             total: 0,
         }
@@ -92,35 +111,45 @@ impl Digest {
     {
         let total = self.total;
         if DIGEST_MOST < total {
-            return Finished {
-                number: refusal::number(Refusal::TooLong),
-                digest: [0u8; DIGEST_SIZE],
-            };
+            return refused();
         }
-        // a single 1 bit, zeros up to 8 bytes before the end of a block, and the number of bits
-        let zeros = (119 - total % BLOCK_SIZE) % BLOCK_SIZE;
-        let mut pad = [0u8; BLOCK_SIZE + 8];
-        pad[0] = 0x80;
-        octets::put_little(&mut pad, zeros + 1, 8, total as u64 * 8);
-        let last = absorbed(self, &pad[..zeros + 9]);
+        let tail = self.tail;
+        let used = total % BLOCK_SIZE;
+        let last = ended(self.words, &tail[..used], total);
         Finished {
             number: 0,
-            digest: bytes_of(last.words),
+            digest: bytes_of(last),
         }
     }
+}
+
+// The words after a message's first block.
+pub fn words_after_first(first: [u8; BLOCK_SIZE]) -> Words
+    ensures { λ v. ⌜ v ≡ compress start (load first) ⌝ }
+{
+    block(start_words(), words_of(&first, 0))
+}
+
+// The words after the rest of a message whose first block led to w, and after its padding. Past the limit, w as it is given.
+pub fn words_after_rest(w: Words, rest: &[u8]) -> Words
+    ensures { λ v. ⌜ v ≡ afterRest w (now (rest .entry)) ⌝ }
+{
+    if DIGEST_MOST - BLOCK_SIZE < rest.len() {
+        return w;
+    }
+    all_blocks(w, rest, BLOCK_SIZE + rest.len())
 }
 
 // The digest of a whole message; refused where it is longer than the limit.
 pub fn md5(message: &[u8]) -> Finished
     ensures { λ v. ⌜ v ≡ md5Of (now (message .entry)) ⌝ }
 {
-    let fed = Digest::begin().feed(message);
-    if fed.number != 0 {
-        return Finished {
-            number: fed.number,
-            digest: [0u8; DIGEST_SIZE],
-        };
+    if DIGEST_MOST < message.len() {
+        return refused();
     }
-    let d = fed.state;
-    d.finish()
+    let last = all_blocks(start_words(), message, message.len());
+    Finished {
+        number: 0,
+        digest: bytes_of(last),
+    }
 }

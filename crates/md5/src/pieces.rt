@@ -8,10 +8,10 @@ ghost use Rattle.md5.specs.Entries.{digestMost, settle, absorb};
 use crate::BLOCK_SIZE;
 use crate::DIGEST_SIZE;
 use crate::Digest;
-use crate::Words;
-use crate::block::block;
-use crate::block::whole_blocks;
-use crate::block::words_of;
+use crate::blocks::whole_blocks;
+use crate::blocks::words_of;
+use md5_block::Words;
+use md5_block::block;
 
 // The state after the words w and the bytes of s: whole blocks go through the block function, and what is left stays in the tail.
 fn settled(w: Words, s: &[u8], total: usize) -> Digest
@@ -54,7 +54,7 @@ pub(crate) fn absorbed(d: Digest, piece: &[u8]) -> Digest
 }
 
 // RFC 1321, section 3.5: the four words' bytes, lowest first.
-pub(crate) fn bytes_of(w: Words) -> [u8; DIGEST_SIZE]
+pub fn bytes_of(w: Words) -> [u8; DIGEST_SIZE]
     ensures { λ v. ⌜ v ≡ output w ⌝ }
 {
     let mut bytes = [0u8; DIGEST_SIZE];

@@ -1,5 +1,5 @@
-//! MD5 as RFC 1321 has it, and the library's entries with their limit: the whole digest, and the
-//! digest in progress.
+//! MD5 as RFC 1321 has it, one block and whole messages, and the library's entries with their
+//! limit: the whole digest, and the digest in progress.
 
 use crate::refusal::Refusal;
 use std::sync::LazyLock;
@@ -127,7 +127,7 @@ fn after_blocks(start: [u32; 4], bytes: &[u8]) -> ([u32; 4], Vec<u8>) {
 }
 
 /// The four words after one block of 64 bytes.
-fn after_block(start: [u32; 4], block: &[u8]) -> [u32; 4] {
+pub fn after_block(start: [u32; 4], block: &[u8]) -> [u32; 4] {
     let x: [u32; 16] = std::array::from_fn(|i| {
         u32::from_le_bytes([
             block[4 * i],

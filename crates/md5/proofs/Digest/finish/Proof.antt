@@ -1,28 +1,31 @@
--- `md5::Digest::finish` meets its contract: the padding's bytes are absorbed (proofs/Answers.antt).
-use Prim.Native.Nat.{ℕ}
-use mathlib.Core.Path.{sym, ap, _∙_}
-use lib.ListN.{length-take}
+-- `md5::Digest::finish` meets its contract: the bytes held and their padding (proofs/Answers.antt).
+use mathlib.Core.Path.{_≡_, sym}
+use lib.ListN.{length}
 use lib.Seq.{length-take-le}
 use native.Mathlib.Omega.{arith}
-use Rattle.md5.specs.declared.Finished.{Finished}
-use Rattle.md5.specs.Entries.{noDigest}
-use Rattle.md5.proofs.Answers.{finish-padded, finish-refused}
+use Rattle.md5.specs.Block.{blockSize}
+use Rattle.md5.proofs.Answers.{finish-all, finish-refused}
 use borrow.Author.Needs.{needs}
 use Rattle.md5.proofs.Digest.finish.Statement.{statement}
 use Rattle.md5.proofs.Digest.finish.Tie as tie
 
+tail-long : (c : tie.Start) → length (c .args .self .tail) ≡ blockSize
+tail-long c = search needs
+
+array-share-prefix-tail : tie.Need-array-share-prefix-tail
+array-share-prefix-tail c = let l = tail-long (c .before .before) in omega arith
+
+slice-aggregate-ended : tie.Need-slice-aggregate-ended
+slice-aggregate-ended c = let l = tail-long (c .before .before .before) in sym (length-take-le _ _ (omega arith))
+
+ended-requires : tie.Need-ended-requires
+ended-requires c κs = let l = tail-long (c .before .before .before) in (length-take-le _ _ (omega arith), omega arith)
+
 returns : tie.Need-returns
-returns c = ap {B = Finished} (λ (n : ℕ). record { number = n; digest = noDigest }) (c .number .ensures) ∙ sym (finish-refused _ (omega arith))
-
-slice-aggregate-absorbed : tie.Need-slice-aggregate-absorbed
-slice-aggregate-absorbed c = sym (length-take-le _ _ (omega arith))
-
-absorbed-requires : tie.Need-absorbed-requires
-absorbed-requires c κs = simp length-take (omega arith)
+returns c = cc (finish-refused (c .before .before .args .self) (omega arith))
 
 returns-2 : tie.Need-returns-2
-returns-2 c = let d = c .before .before .before .before .before .before .before .args .self in
-    finish-padded d _ _ _ (omega arith) (c .before .before .before .before .put-little .ensures) (c .before .absorbed .ensures) (c .bytes-of .ensures)
+returns-2 c = cc (finish-all (c .before .before .before .before .before .args .self) _ (omega arith) (c .before .ended .ensures))
 
 pub finish-spec : {M : Type 1} → statement M
 finish-spec =
@@ -30,15 +33,8 @@ finish-spec =
     (tie.spec
     (λ c κs. search needs)
     returns
-    (λ c. search needs)
-    (λ c. search needs)
-    (λ c. search needs)
-    (λ c. search needs)
-    (λ c. search needs)
-    (λ c κs. search needs)
-    (λ c. search needs)
-    (λ c. search needs)
-    slice-aggregate-absorbed
-    absorbed-requires
+    array-share-prefix-tail
+    slice-aggregate-ended
+    ended-requires
     (λ c κs. search needs)
     returns-2)

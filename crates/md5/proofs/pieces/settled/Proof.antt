@@ -7,7 +7,7 @@ use Rattle.octets.specs.Bytes.{written, zeros}
 use Rattle.octets.proofs.Filled.{written-zeros}
 use Rattle.md5.specs.Block.{blockSize}
 use Rattle.md5.specs.Entries.{settle}
-use Rattle.md5.proofs.Absorb.{part-rest}
+use Rattle.md5.proofs.Whole.{part-rest}
 use borrow.Author.Needs.{needs}
 use Rattle.md5.proofs.pieces.settled.Statement.{statement}
 use Rattle.md5.proofs.pieces.settled.Tie as tie
