@@ -1,14 +1,13 @@
--- `md5_block::fourth_round` meets its contract: step after step (`next` in proofs/Steps.antt); word, constant and rotation of each are those of the tables.
-use mathlib.Core.Path.{refl}
+-- `md5_block::fourth_round` meets its contract: step after step (`sixteen` in proofs/Steps.antt); word, constant and rotation of each are those of the tables.
 use Rattle.md5_block.specs.Word.{wordNo, additive, rotations}
-use Rattle.md5_block.specs.Block.{steps, stepAt, round}
-use Rattle.md5_block.proofs.Steps.{next}
+use Rattle.md5_block.specs.Block.{stepAt}
+use Rattle.md5_block.proofs.Steps.{sixteen}
 use native.Mathlib.Omega.{arith}
 use Rattle.md5_block.proofs.rounds.fourth_round.Statement.{statement}
 use Rattle.md5_block.proofs.rounds.fourth_round.Tie as tie
 
 returns : tie.Need-returns
-unfolding round steps stepAt wordNo additive rotations
+unfolding stepAt wordNo additive rotations
 returns c =
     let c15 = c .before in
     let c14 = c15 .before in
@@ -26,23 +25,11 @@ returns c =
     let c2 = c3 .before in
     let c1 = c2 .before in
     let a = c1 .before .args in
-    let x = a .t2 in
-    let p1 = next x 3 0 (a .w) refl (c1 .fourth-step .ensures) in
-    let p2 = next x 3 1 (a .w) p1 (c2 .fourth-step2 .ensures) in
-    let p3 = next x 3 2 (a .w) p2 (c3 .fourth-step3 .ensures) in
-    let p4 = next x 3 3 (a .w) p3 (c4 .fourth-step4 .ensures) in
-    let p5 = next x 3 4 (a .w) p4 (c5 .fourth-step5 .ensures) in
-    let p6 = next x 3 5 (a .w) p5 (c6 .fourth-step6 .ensures) in
-    let p7 = next x 3 6 (a .w) p6 (c7 .fourth-step7 .ensures) in
-    let p8 = next x 3 7 (a .w) p7 (c8 .fourth-step8 .ensures) in
-    let p9 = next x 3 8 (a .w) p8 (c9 .fourth-step9 .ensures) in
-    let p10 = next x 3 9 (a .w) p9 (c10 .fourth-step10 .ensures) in
-    let p11 = next x 3 10 (a .w) p10 (c11 .fourth-step11 .ensures) in
-    let p12 = next x 3 11 (a .w) p11 (c12 .fourth-step12 .ensures) in
-    let p13 = next x 3 12 (a .w) p12 (c13 .fourth-step13 .ensures) in
-    let p14 = next x 3 13 (a .w) p13 (c14 .fourth-step14 .ensures) in
-    let p15 = next x 3 14 (a .w) p14 (c15 .fourth-step15 .ensures) in
-    next x 3 15 (a .w) p15 (c .fourth-step16 .ensures)
+    sixteen (a .t2) 3 (a .w)
+    (c1 .fourth-step .ensures) (c2 .fourth-step2 .ensures) (c3 .fourth-step3 .ensures) (c4 .fourth-step4 .ensures)
+    (c5 .fourth-step5 .ensures) (c6 .fourth-step6 .ensures) (c7 .fourth-step7 .ensures) (c8 .fourth-step8 .ensures)
+    (c9 .fourth-step9 .ensures) (c10 .fourth-step10 .ensures) (c11 .fourth-step11 .ensures) (c12 .fourth-step12 .ensures)
+    (c13 .fourth-step13 .ensures) (c14 .fourth-step14 .ensures) (c15 .fourth-step15 .ensures) (c .fourth-step16 .ensures)
 
 pub fourth-round-spec : {M : Type 1} → statement M
 fourth-round-spec =
