@@ -1,6 +1,7 @@
 /*
- * Times the library beside OpenSSL: MD5, HMAC-MD5, a whole check and a whole seal, and MD5's work on one block, written
- * out and by tables. Then a check and a seal beside the HMAC-MD5 that they contain, and how a check's time grows.
+ * Times the library beside OpenSSL: MD5, HMAC-MD5, a whole check, a whole seal and a whole judgement of a FORCERENEW, and
+ * MD5's work on one block, written out and by tables. Then a check and a seal beside the HMAC-MD5 that they contain, and how
+ * a check's time grows.
  *
  * How it measures. What is compared stands in one table and takes turns: each round times one batch of each, in another
  * order every round, so that whatever slows the machine meets all of them alike. A time is the median over all rounds,
@@ -522,7 +523,7 @@ static struct work seals_of(struct lot *lot)
     return (struct work){forget_sent, our_seals, lot, lot->count};
 }
 
-/* A check, or a seal, beside OpenSSL's MACs of the same bytes. */
+/* A check, a seal or a judgement beside OpenSSL's MACs of the same bytes. */
 static void compare_with_openssl(const char *what, struct lot *lot, struct work ours)
 {
     struct work works[4] = {ours,
@@ -551,6 +552,67 @@ static void compare_many_rows(void)
     compare_with_openssl("seal, 64 rows", &lot, seals_of(&lot));
     lot.book.marks[0] = RIMEMAGPIE_NOT_HEARD; /* so that soundness looks at the received counters too */
     compare_with_openssl("one not heard", &lot, checks_of(&lot));
+}
+
+/* ---- orders to renew ---- */
+
+/* FORCERENEWs under the nonce `key`, with the counters from 1 on, and the one server row that they are judged by. */
+struct orders {
+    struct lot lot; /* the messages alone: there is no book */
+    uint8_t nonce[16];
+    uint64_t counter;
+    uint8_t mark;
+};
+
+static void our_orders(void *with)
+{
+    struct orders *orders = with;
+    struct lot *lot = &orders->lot;
+    uint64_t counter;
+    uint8_t kind;
+
+    for (size_t i = 0; i < lot->count; i++)
+        if (rimemagpie_forcerenew(orders->nonce, 16, &orders->counter, 1, &orders->mark, 1, 0, lot->messages[i], lot->size,
+                                  &kind, &counter) != 0)
+            fail("a FORCERENEW was refused");
+}
+
+static void forget_order(void *with)
+{
+    struct orders *orders = with;
+
+    orders->counter = 0;
+}
+
+/* Option 90 is followed by End, and that by bytes up to the size. */
+static void make_order(uint8_t *message, size_t size, size_t number)
+{
+    static const uint8_t options[] = {99, 130, 83, 99, 53, 1, 9, 90, 28, 3, 1, 0};
+    uint8_t *value = message + 257;
+
+    memset(message, 0, size);
+    memcpy(message + 236, options, sizeof options);
+    message[254] = (uint8_t)(number >> 8);
+    message[255] = (uint8_t)number;
+    message[256] = 2;
+    message[273] = 255;
+    if (rimemagpie_hmac(key, KEY_SIZE, message, size, value) != 0)
+        fail("a MAC was refused");
+}
+
+static void compare_orders(size_t size)
+{
+    static struct orders orders;
+    struct lot *lot = &orders.lot;
+
+    memset(&orders, 0, sizeof orders);
+    lot->size = size;
+    lot->count = batch_calls(size);
+    memcpy(orders.nonce, key, KEY_SIZE);
+    orders.mark = RIMEMAGPIE_SERVER_HEARD;
+    for (size_t i = 0; i < lot->count; i++)
+        make_order(lot->messages[i], size, i + 1);
+    compare_with_openssl("FORCERENEW", lot, (struct work){forget_order, our_orders, &orders, lot->count});
 }
 
 /* A check, or a seal, beside the library's own MAC of what the message's covers. */
@@ -652,16 +714,18 @@ static void compare_all_macs(void)
     /* The last is the largest message that HMAC takes: 64 bytes of the inner digest's total are the key's. */
     static const size_t sizes[] = {64, 300, 1472, DIGEST_MOST - 64};
 
-    printf("\nHMAC-MD5, a whole check and a whole seal beside OpenSSL's HMAC-MD5 of the same bytes, which judges and\n"
-           "stores nothing: low-level, by hand from its MD5 calls over the key pads; the same with a plain loop over the\n"
-           "inner pad's bytes; and its one-shot HMAC(). One row is in use, where no other number is given; the last line has 64\n"
-           "rows, one of them not heard:\n");
+    printf("\nHMAC-MD5, a whole check, a whole seal and a whole judgement of a FORCERENEW beside OpenSSL's HMAC-MD5 of the same\n"
+           "bytes, which judges and stores nothing: low-level, by hand from its MD5 calls over the key pads; the same with a\n"
+           "plain loop over the inner pad's bytes; and its one-shot HMAC(). One row is in use, where no other number is given;\n"
+           "'one not heard' has 64 rows, one of them not heard:\n");
     print_head(names, 4);
     for (size_t i = 0; i < sizeof sizes / sizeof sizes[0]; i++)
         compare_digests("HMAC-MD5", sizes[i], ways, 4);
     compare_checks_and_seals(300);
     compare_checks_and_seals(1472);
     compare_many_rows();
+    compare_orders(300);
+    compare_orders(1472);
 }
 
 static void compare_all_with_own_mac(void)

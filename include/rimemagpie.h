@@ -1,7 +1,7 @@
 /*
  * Rimemagpie: judges and seals DHCPv4 messages under RFC 3118 delayed authentication (protocol 1, algorithm 1, which is
- * HMAC-MD5, replay detection method 0), and reads, writes and moves the card on which a key book is stored. docs/RULES.md
- * has the rules.
+ * HMAC-MD5, replay detection method 0), judges FORCERENEW by nonce (RFC 6704, protocol 3), and reads, writes and moves the
+ * card on which a key book is stored. docs/RULES.md has the rules.
  *
  * Link with librimemagpie.a. No function allocates, keeps anything between calls, or reads or writes anything but what it
  * is lent.
@@ -14,8 +14,8 @@
  *     variable of that type in its place, with the length 0;
  *   - in one call nothing overlaps what is lent for writing: no two places of results, no place and a buffer, no two
  *     buffers of which one is not `const`;
- *   - nobody else (another thread, a signal handler) writes the book or anything else that is lent during the call, or
- *     reads what the call writes.
+ *   - nobody else (another thread, a signal handler) writes the book, the server rows or anything else that is lent
+ *     during the call, or reads what the call writes.
  *
  * The key book. Six buffers, each with room for the same n rows (n at most 1,024), and the number of rows in use:
  *
@@ -46,9 +46,26 @@
  * row. A card of either form is read, and the new one is written. rimemagpie_card_to_old and rimemagpie_card_to_new make
  * one of the other.
  *
- * What is given back. Each function returns one of the numbers below, the lowest that applies. Any bytes may be lent as a
- * message or a card. A refusal (any number but 0) changes nothing that was lent and no place of a result, with one
- * exception: rimemagpie_digest and rimemagpie_hmac write 16 zero bytes with 14.
+ * The server rows, which rimemagpie_forcerenew alone is lent. They are no part of the book or of its card. Three buffers,
+ * each for the same n rows, a row for each server that may order a renewal. n may be any, 0 and above 1,024 too, and all n
+ * rows are in use:
+ *
+ *   nonces    16 * n bytes  row k's nonce from 16 * k on
+ *   counters  n numbers     the counter last accepted from each server under its nonce
+ *   marks     n bytes       0 where the row has no nonce yet, 1 where it has one and is not heard, 2 where it is heard
+ *
+ * These marks are numbered otherwise than a book's: there 0 is not heard and 1 is heard, here 1 is not heard and 2 is
+ * heard. RIMEMAGPIE_NOT_HEARD and RIMEMAGPIE_HEARD are a book's; RIMEMAGPIE_SERVER_NONE_YET, RIMEMAGPIE_SERVER_NOT_HEARD
+ * and RIMEMAGPIE_SERVER_HEARD are a server row's. A new row has the mark 0; its nonce and its counter may hold anything.
+ * Unlike in a book, a row that is not heard may have any counter: the next one is taken, whatever it is.
+ *
+ * Store all three after every judgement that returns 0: they are what keeps an old FORCERENEW out. A mark that is set back
+ * from 2 to 1 lets every earlier FORCERENEW under that nonce in once more.
+ *
+ * What is given back. Each function returns one of the numbers below: rimemagpie_forcerenew the first that applies in the
+ * order that its comment lists, every other function the lowest that applies. Any bytes may be lent as a message or a card.
+ * A refusal (any number but 0) changes nothing that was lent and no place of a result, with one exception:
+ * rimemagpie_digest and rimemagpie_hmac write 16 zero bytes with 14.
  */
 #ifndef RIMEMAGPIE_H
 #define RIMEMAGPIE_H
@@ -63,7 +80,7 @@ extern "C" {
 /* The numbers given back, by the names of crates/refusal. */
 enum rimemagpie_number {
     RIMEMAGPIE_DONE = 0,                    /* accepted or done */
-    RIMEMAGPIE_UNSOUND_BOOK = 1,            /* the book is not sound (reading a card: the lent sizes) */
+    RIMEMAGPIE_UNSOUND_BOOK = 1,            /* the book is not sound (reading a card: sizes; by nonce: server rows) */
     RIMEMAGPIE_MESSAGE_SIZE = 2,            /* the message is below 241 or above 1,472 bytes */
     RIMEMAGPIE_WRONG_COOKIE = 3,            /* the cookie differs */
     RIMEMAGPIE_BROKEN_OPTIONS = 4,          /* an option passes the message's end, or there is no End */
@@ -72,21 +89,31 @@ enum rimemagpie_number {
     RIMEMAGPIE_RELAY_INFORMATION = 7,       /* more than one option 82 */
     RIMEMAGPIE_OTHER_AUTHENTICATION = 8,    /* option 90's length is neither 11 nor 31, or its body doesn't begin 1, 1, 0 */
     RIMEMAGPIE_REQUEST_FORM = 9,            /* option 90 is a request (length 11): it has no id and no MAC */
-    RIMEMAGPIE_UNKNOWN_SECRET = 10,         /* the secret id has no row */
-    RIMEMAGPIE_REPLAY = 11,                 /* the row is heard and the counter is not above its received one */
+    RIMEMAGPIE_UNKNOWN_SECRET = 10,         /* the secret id has no row (by nonce: there is no such server row) */
+    RIMEMAGPIE_REPLAY = 11,                 /* the row is heard and the counter is not above the one that it has */
     RIMEMAGPIE_WRONG_MAC = 12,              /* the MAC differs */
     RIMEMAGPIE_COUNTER_SPENT = 13,          /* the sent counter is 2^64 - 1 */
     RIMEMAGPIE_TOO_LONG = 14,               /* a digest's total would pass 65,535 bytes, or an HMAC key 64 */
     RIMEMAGPIE_MALFORMED_CARD = 15,         /* the card is malformed */
     RIMEMAGPIE_NO_ROOM_FOR_CARD = 16,       /* the room for the card is too small */
     RIMEMAGPIE_NO_ROOM_FOR_ROWS = 17,       /* the card has more rows than the lent room */
-    RIMEMAGPIE_ROW_NOT_HEARD = 18           /* the old form of a card is wanted and a row is not heard */
+    RIMEMAGPIE_ROW_NOT_HEARD = 18,          /* the old form of a card is wanted and a row is not heard */
+    RIMEMAGPIE_NOT_BY_NONCE = 19,           /* by nonce: option 90's length is not 28, or its body doesn't begin 3, 1, 0 */
+    RIMEMAGPIE_WRONG_TYPE = 20,             /* by nonce: option 90's type doesn't go with option 53 */
+    RIMEMAGPIE_NO_NONCE = 21                /* by nonce: a FORCERENEW, and the server row has no nonce yet */
 };
 
-/* The two marks of a row, by the names of crates/key_book. */
+/* The two marks of a book's row, by the names of crates/key_book. */
 enum rimemagpie_mark {
     RIMEMAGPIE_NOT_HEARD = 0, /* nothing was accepted yet: any counter is taken */
     RIMEMAGPIE_HEARD = 1      /* only a counter above the received one is taken */
+};
+
+/* The three marks of a server row, by the names of crates/forcerenew. They are not those of a book's row. */
+enum rimemagpie_server_mark {
+    RIMEMAGPIE_SERVER_NONE_YET = 0,  /* the server gave no nonce yet: no FORCERENEW is taken */
+    RIMEMAGPIE_SERVER_NOT_HEARD = 1, /* no FORCERENEW was accepted under the nonce yet: any counter is taken */
+    RIMEMAGPIE_SERVER_HEARD = 2      /* only a counter above the stored one is taken */
 };
 
 /*
@@ -226,6 +253,45 @@ uint8_t rimemagpie_card_to_old(const uint8_t *card, size_t card_len,
 uint8_t rimemagpie_card_to_new(const uint8_t *card, size_t card_len,
                                uint8_t *room, size_t room_len,
                                uint64_t *size);
+
+/*
+ * Judges a message that came from the server of a row, counted from 0, by that server's nonce (RFC 6704): an ACK that gives
+ * the nonce (type 1), or a FORCERENEW, the server's order to renew at once (type 2). rimemagpie_check says 8 to both.
+ *
+ * Option 90 of these, by offset from its code: length 1 (28), protocol 2 (3), algorithm 3 (1), replay method 4 (0), counter
+ * 5 to 12, type 13, nonce or MAC 14 to 29. The MAC is the HMAC-MD5 under the row's nonce of the whole message with just the
+ * MAC's 16 bytes zero: hops, giaddr and option 82 are covered as they stand, and a relay that alters them spoils it.
+ *
+ *   0   `*kind` is the type, 1 or 2, and `*counter` the message's counter.
+ *       1: the ACK's nonce is the row's. Where the row had none yet, or another, the nonce is stored, the row's counter is
+ *       now 0 and its mark 1, not heard. Where it is the nonce that the row has, nothing changed. The ACK's counter is
+ *       neither judged nor stored
+ *       2: the FORCERENEW is good. The row's counter is now `*counter` and its mark is 2, heard; nothing else changed
+ *
+ * Refused, it changes nothing, not `*kind` and `*counter` either. The lowest number doesn't come first here. The order is
+ *
+ *   1        the sizes don't belong together, or the mark of any row, whichever is named, is above 2
+ *   2 to 7   as the table says, in their order
+ *   10       there is no such row: `row` is n or above
+ *   19       option 90's length is not 28, or its body doesn't begin 3, 1, 0
+ *   20       option 90's type doesn't go with option 53. Type 1 goes with just one option 53 in the message, of length 1,
+ *            that holds 5 (an ACK), type 2 with one that holds 9 (a FORCERENEW), and any other type with nothing
+ *   21       type 2, and the row has no nonce yet (its mark is 0)
+ *   11       type 2, the row is heard (its mark is 2), and the counter is not above the row's
+ *   12       type 2, and the MAC differs
+ *
+ * What this doesn't stop. An ACK that gives a nonce can't be authenticated by RFC 3118 too, since two options 90 are 6, so
+ * nothing in it shows who sent it; and whoever had an ACK taken can order renewals from then on. Show one only where its
+ * sender is known otherwise, and for that sender's row. The nonce stands in it in the clear: whoever sees the ACK has it.
+ * And it can be shown again: an old ACK that comes after a newer nonce puts the old nonce back, with counter 0 and not
+ * heard, and the FORCERENEWs under it are taken once more.
+ */
+uint8_t rimemagpie_forcerenew(uint8_t *nonces, size_t nonces_len,
+                              uint64_t *counters, size_t counters_len,
+                              uint8_t *marks, size_t marks_len,
+                              size_t row,
+                              const uint8_t *message, size_t message_len,
+                              uint8_t *kind, uint64_t *counter);
 
 #ifdef __cplusplus
 }

@@ -60,6 +60,8 @@ THEOREMS = [
     ("hmac_md5", "Limits", "hmac-limits", "HmacLimits"),
     ("dhcp_message", "Decoding", "round-trips", "RoundTrips"),
     ("dhcp_message", "Lowest", "lowest-given", "LowestGiven"),
+    ("dhcp_message", "Lowest", "shape-given", "ShapeGiven"),
+    ("dhcp_message", "Typing", "type-says", "TypeSays"),
     ("dhcp_message", "Seals", "form-says", "FormSays"),
     ("dhcp_message", "Relays", "relay-keeps", "RelayKeeps"),
     ("dhcp_message", "Relays", "relay-may", "RelayMay"),
@@ -79,6 +81,9 @@ THEOREMS = [
     ("key_book", "Computed", "example-10", "Example10"),
     ("key_book", "Computed", "book-limits", "BookLimits"),
     ("key_book", "Computed", "marks-pinned", "MarksPinned"),
+    ("forcerenew", "Soundness", "rows-say", "RowsSay"),
+    ("forcerenew", "Offsets", "offsets-say", "OffsetsSay"),
+    ("forcerenew", "Computed", "nonce-examples", "NonceExamples"),
     ("book_card", "Says", "front-says", "FrontSays"),
     ("book_card", "Says", "card-says", "CardSays"),
     ("book_card", "Says", "malformed-says", "MalformedSays"),
@@ -131,10 +136,13 @@ THEOREMS = [
 # crate and name of the closed records that are data and state nothing.
 DATA = [
     ("key_book", "Book"),
+    ("forcerenew", "Servers"),
+    ("forcerenew", "Server"),
     ("book_card", "Row"),
     ("book_card", "FrontRows"),
     ("capture", "Record"),
     ("capture", "Records"),
+    ("demands", "State"),
 ]
 
 # Crates whose functions serve the other crates and are no entries: they may ask something of their callers, since every caller is proved to give it.

@@ -133,6 +133,20 @@ mod header {
             room_len: usize,
             size: *mut u64,
         ) -> u8;
+
+        pub fn rimemagpie_forcerenew(
+            nonces: *mut u8,
+            nonces_len: usize,
+            counters: *mut u64,
+            counters_len: usize,
+            marks: *mut u8,
+            marks_len: usize,
+            row: usize,
+            message: *const u8,
+            message_len: usize,
+            kind: *mut u8,
+            counter: *mut u64,
+        ) -> u8;
     }
 }
 
@@ -355,6 +369,33 @@ pub fn card_to_new(card: &[u8], room: &mut [u8], size: &mut u64) -> u8 {
             room.as_mut_ptr(),
             room.len(),
             size,
+        )
+    }
+}
+
+/// `rimemagpie_forcerenew`.
+pub fn forcerenew(
+    nonces: &mut [u8],
+    counters: &mut [u64],
+    marks: &mut [u8],
+    row: usize,
+    message: &[u8],
+    kind: &mut u8,
+    counter: &mut u64,
+) -> u8 {
+    unsafe {
+        header::rimemagpie_forcerenew(
+            nonces.as_mut_ptr(),
+            nonces.len(),
+            counters.as_mut_ptr(),
+            counters.len(),
+            marks.as_mut_ptr(),
+            marks.len(),
+            row,
+            message.as_ptr(),
+            message.len(),
+            kind,
+            counter,
         )
     }
 }

@@ -1,5 +1,5 @@
 //! RFC 3118 delayed authentication for DHCPv4 messages: the proved library, as a Rust program uses
-//! it.
+//! it. FORCERENEW by nonce (RFC 6704) is in [`forcerenew`].
 //!
 //! ```
 //! use rimemagpie::{card_move, Accepted, Book, Form, Refusal, CARD_MOST, HEARD, NOT_HEARD};
@@ -46,6 +46,7 @@
 #![warn(missing_docs)]
 
 pub mod c;
+pub mod forcerenew;
 mod refusal;
 
 use std::fmt;

@@ -34,7 +34,7 @@ macro_rules! refusals {
 }
 
 refusals! {
-    UnsoundBook = 1, "the book is not sound";
+    UnsoundBook = 1, "the book is not sound, or the server rows are not";
     MessageSize = 2, "the message is below 241 or above 1,472 bytes";
     WrongCookie = 3, "the cookie differs";
     BrokenOptions = 4, "an option passes the message's end, or there is no End";
@@ -43,8 +43,8 @@ refusals! {
     RelayInformation = 7, "there is more than one option 82";
     OtherAuthentication = 8, "option 90 is not delayed authentication with HMAC-MD5 and a counter";
     RequestForm = 9, "option 90 is a request, without id and MAC";
-    UnknownSecret = 10, "the secret id has no row";
-    Replay = 11, "the row is heard and the counter is not above its received one";
+    UnknownSecret = 10, "the secret id has no row, or there is no such server row";
+    Replay = 11, "the row is heard and the counter is not above the one that it has";
     WrongMac = 12, "the MAC differs";
     CounterSpent = 13, "the sent counter is at its last value";
     TooLong = 14, "the digest's total would pass 65,535 bytes, or the key is above 64 bytes";
@@ -52,6 +52,9 @@ refusals! {
     NoRoomForCard = 16, "the room for the card is too small";
     NoRoomForRows = 17, "the card has more rows than there is room for";
     RowNotHeard = 18, "the old form of a card is wanted and a row is not heard";
+    NotByNonce = 19, "option 90 is not by nonce with HMAC-MD5 and a counter";
+    WrongType = 20, "option 90's type doesn't go with option 53";
+    NoNonce = 21, "a FORCERENEW came, and the server row has no nonce yet";
 }
 
 impl Refusal {

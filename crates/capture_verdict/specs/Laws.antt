@@ -12,7 +12,7 @@ use Rattle.key_book.specs.Book.{Book}
 use Rattle.delayed_auth.specs.declared.Verdict.{Verdict}
 use Rattle.book_card.specs.Card.{Row, CardFor, NoCard}
 use Rattle.book_card.specs.Reading.{loaded}
-use Rattle.demands.specs.Demand3.{Step, check, Answer, checked, answers, ending}
+use Rattle.demands.specs.Demand3.{Step, check, State, Answer, checked, answers, ending}
 use Rattle.verdict_line.specs.declared.Line.{Line}
 use Rattle.verdict_line.specs.declared.Line.the-variants.{Unreadable, Skipped, Cut}
 use Rattle.verdict_line.specs.Line.{lineOf, numberedLine}
@@ -45,10 +45,10 @@ pub data Tells : List Record → List Answer → List Line → Type 0 where
       → payloadOf (r .frame) (r .original) ≡ some message → Tells rs given lines → Tells (r ∷ rs) (checked v ∷ given) (verdictLine v ∷ lines)
 
 -- Demand 3's run: the lines are the answers of the checks of the payloads in the file's order, from the same book, each with its number; and the
--- book, its marks and received counters with it, ends as the run leaves it.
+-- book, its marks and received counters with it, ends as the run leaves it. The server rows of the run may be any: a check doesn't see them.
 pub record VerdictsAreAnswers : Type 0 where
-  pub lines-tell : (b : Book) (records : List Record) → Tells records (answers b (checksOf records)) (recordLines b records)
-  pub book-ends : (b : Book) (records : List Record) → bookAtEnd b records ≡ ending b (checksOf records)
+  pub lines-tell : (b : State) (records : List Record) → Tells records (answers b (checksOf records)) (recordLines (b .book) records)
+  pub book-ends : (b : State) (records : List Record) → bookAtEnd (b .book) records ≡ ending b (checksOf records) .book
   pub numbered-so : (b : Book) (capture : List ℕ) (records : Records) → recordsOf capture ≡ some records
       → linesOf b capture ≡ numbered 1 (recordLines b (records .whole)) ++ cond (records .cut) (lineOf Cut ∷ []) []
 

@@ -16,8 +16,9 @@ use Rattle.key_book.specs.Book.{Book, rowOf, keyOf}
 use Rattle.delayed_auth.specs.declared.Verdict.{Verdict}
 use Rattle.delayed_auth.specs.declared.Verdict.the-variants.{Accepted, Refused}
 use Rattle.delayed_auth.specs.Admit.{admittedSaid, admittedForm}
-use Rattle.delayed_auth.specs.Check.{sameBytes, newTo, judgedBy, judgedRow, judgedSaid, checkOf, marksAfter, receivedAfter}
-use Rattle.delayed_auth.proofs.Macs.{same-equal, same-differ, equal-same, differ-same}
+use Rattle.octets.specs.Bytes.{sameBytes}
+use Rattle.delayed_auth.specs.Check.{newTo, judgedBy, judgedRow, judgedSaid, checkOf, marksAfter, receivedAfter}
+use Rattle.octets.proofs.Comparing.{same-equal, same-differ, equal-same, differ-same}
 use Rattle.delayed_auth.proofs.Admits.{form-said, RowFacts, said-facts}
 
 pub data CheckCase (b : Book) (m : List ℕ) : Verdict → Type 0 where

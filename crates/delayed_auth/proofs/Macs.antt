@@ -1,15 +1,12 @@
--- Laws of comparing and computing MACs. The only law file that unfolds `sameBytes`.
+-- Laws of the MAC over the covered image, and of the one that stands in a message.
 use mathlib.Core.Path.{_≡_, refl, sym, ap, _∙_}
-use mathlib.Core.Logic.{_≢_}
-use mathlib.Core.Bool.{Bool, true, false, _&&_, and-eq-true-iff}
-use mathlib.Core.List.{List, [], _∷_, _++_}
-use Prim.Native.Nat.{ℕ, suc, _+_, _-_, _≤_, _<_}
+use mathlib.Core.Bool.{Bool}
+use mathlib.Core.List.{List, _++_}
+use Prim.Native.Nat.{ℕ, _+_, _-_, _≤_}
 use native.Mathlib.Omega.{arith}
-use borrow.Author.Tests.{eq-eqb, eqb-true}
-use lib.Dec.{eqb}
-use lib.ListN.{length, getD, take, drop, length-drop, length-replicate, drop-of-length-le}
-use lib.Seq.{drop-cons, take-at, length-take-le}
-use Rattle.octets.specs.Bytes.{zeros}
+use lib.ListN.{length, take, drop, length-replicate}
+use lib.Seq.{take-at}
+use Rattle.octets.specs.Bytes.{zeros, sameBytes}
 use Rattle.hmac_md5.specs.Hmac.{hmac, hmacOf, keyMost}
 use Rattle.hmac_md5.specs.declared.Mac.{Mac}
 use Rattle.hmac_md5.proofs.Masks.{hmac-taken}
@@ -19,59 +16,6 @@ use Rattle.dhcp_message.specs.Image.{imageOf, coverSize, coverLeft}
 use Rattle.dhcp_message.specs.declared.Auth.{Auth}
 use Rattle.dhcp_message.specs.declared.Form.the-variants.{Full}
 use Rattle.dhcp_message.proofs.Seals.{seal-laws, full-form}
-use Rattle.delayed_auth.specs.Check.{sameBytes}
-
--- ---- one byte after the other
-
-and-assoc : (a b c : Bool) → (a && b && c) ≡ (a && (b && c))
-and-assoc true b c = refl
-and-assoc false b c = refl
-
-and-true : (a : Bool) → (a && true) ≡ a
-and-true true = refl
-and-true false = refl
-
-pub same-turn : (s : Bool) (xs ys : List ℕ) (i : ℕ) → i < length xs → i < length ys
-    → (s && eqb (getD xs i 0) (getD ys i 0) && sameBytes (drop (suc i) xs) (drop (suc i) ys)) ≡ (s && sameBytes (drop i xs) (drop i ys))
-unfolding sameBytes
-same-turn s xs ys i h k =
-    and-assoc s (eqb (getD xs i 0) (getD ys i 0)) (sameBytes (drop (suc i) xs) (drop (suc i) ys))
-    ∙ ap (λ (b : Bool). s && b) (sym (rw (drop-cons xs i 0 h, drop-cons ys i 0 k)))
-
-pub same-end : (s : Bool) (xs ys : List ℕ) (i : ℕ) → length xs ≤ i → length ys ≤ i → s ≡ (s && sameBytes (drop i xs) (drop i ys))
-unfolding sameBytes
-same-end s xs ys i h k = rw (drop-of-length-le xs h, drop-of-length-le ys k) (sym (and-true s))
-
--- ---- `sameBytes` is true exactly where the lists are equal
-
-pub same-equal : (xs ys : List ℕ) → sameBytes xs ys ≡ true → xs ≡ ys
-unfolding sameBytes
-same-equal [] [] e = refl
-same-equal [] (y ∷ ys) e = absurd (let z : _≡_ {A = ℕ} 0 1 = cc in omega arith)
-same-equal (x ∷ xs) [] e = absurd (let z : _≡_ {A = ℕ} 0 1 = cc in omega arith)
-same-equal (x ∷ xs) (y ∷ ys) e =
-    let w = and-eq-true-iff (eqb x y) (sameBytes xs ys) .0 e in
-    let h = eqb-true x y (w .0) in
-    let t = same-equal xs ys (w .1) in
-    cc
-
-same-itself : (xs : List ℕ) → sameBytes xs xs ≡ true
-unfolding sameBytes
-same-itself [] = refl
-same-itself (x ∷ xs) = rw (eq-eqb x x refl) (same-itself xs)
-
-pub equal-same : (xs ys : List ℕ) → xs ≡ ys → sameBytes xs ys ≡ true
-equal-same xs ys e = rw (← e) (same-itself xs)
-
-pub same-differ : (xs ys : List ℕ) → sameBytes xs ys ≡ false → xs ≢ ys
-same-differ xs ys e g = let t = equal-same xs ys g in let z : _≡_ {A = ℕ} 0 1 = cc in omega arith
-
-pub differ-same : (xs ys : List ℕ) → xs ≢ ys → sameBytes xs ys ≡ false
-differ-same xs ys h = on (sameBytes xs ys) refl
-  where
-    on : (t : Bool) → sameBytes xs ys ≡ t → t ≡ false
-    on true e = absurd (h (same-equal xs ys e))
-    on false e = refl
 
 -- ---- the MAC over the covered image, which `cover` writes into zeros that have room for any message
 
@@ -109,9 +53,6 @@ pub mac-part : (m : List ℕ) (a : Auth) → take (a .at + fullSize - (a .at + m
 mac-part m a =
     let e : a .at + fullSize - (a .at + macAt) ≡ macSize = omega arith in
     ap (λ (n : ℕ). take n (drop (a .at + macAt) m)) e
-
-pub mac-length : (m : List ℕ) (a : Auth) → formOf m ≡ Full a → length (macIn m a) ≡ macSize
-mac-length m a full = length-take-le macSize (drop (a .at + macAt) m) (omega (arith, length-drop (a .at + macAt) m, full-form m a full .inside))
 
 -- the comparison's answer, for the key and the MAC as the definition has them
 pub mac-compared : (r : Bool) (m mac key key′ : List ℕ) (a : Auth) → r ≡ sameBytes (take (a .at + fullSize - (a .at + macAt)) (drop (a .at + macAt) m)) mac

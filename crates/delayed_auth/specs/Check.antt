@@ -1,13 +1,13 @@
 -- What a check answers (docs/RULES.md, 'Check'; RFC 3118, section 5.3): numbers 1 to 12 in their order, else the row and the counter; and
 -- what it stores. Nothing but the named row's mark and received counter changes, and these only where the message is accepted.
 use Prim.Native.Nat.{ℕ}
-use mathlib.Core.Bool.{Bool, true, false, _&&_}
-use mathlib.Core.List.{List, [], _∷_}
+use mathlib.Core.Bool.{Bool, true, false}
+use mathlib.Core.List.{List}
 use mathlib.Core.Option.{Option, none, some}
-use lib.Dec.{eqb}
 use lib.ListN.{getD, set}
 use Rattle.refusal.specs.Number.{numberOf, done}
 use Rattle.refusal.specs.declared.Refusal.the-variants.{UnknownSecret, Replay, WrongMac}
+use Rattle.octets.specs.Bytes.{sameBytes}
 use Rattle.hmac_md5.specs.Hmac.{hmac}
 use Rattle.dhcp_message.specs.Said.{Said, refused, says}
 use Rattle.dhcp_message.specs.Image.{imageOf}
@@ -17,13 +17,6 @@ use Rattle.key_book.specs.Book.{Book, heardAt, rowOf, keyOf}
 use Rattle.delayed_auth.specs.Admit.{admittedSaid}
 use Rattle.delayed_auth.specs.declared.Verdict.{Verdict}
 use Rattle.delayed_auth.specs.declared.Verdict.the-variants.{Accepted, Refused}
-
--- whether two lists of bytes are the same
-unfoldable pub sameBytes : List ℕ → List ℕ → Bool
-sameBytes [] [] = true
-sameBytes [] (y ∷ ys) = false
-sameBytes (x ∷ xs) [] = false
-sameBytes (x ∷ xs) (y ∷ ys) = eqb x y && sameBytes xs ys
 
 -- whether a counter is new to row k: the row is not heard, or its received counter is below
 abbrev pub newTo : Book → ℕ → ℕ → Bool

@@ -1,10 +1,8 @@
 // Check: judges a message by 1 to 12, and stores the counter of an accepted one and that its row is heard. docs/RULES.md, 'Check'; RFC 3118, section 5.3.
 ghost use mathlib.Core.Path.{_≡_};
-ghost use lib.ListN.{length};
-ghost use Rattle.dhcp_message.specs.Layout.{macSize};
 ghost use Rattle.key_book.specs.Book.{bookOf};
 ghost use Rattle.delayed_auth.specs.Admit.{admittedForm};
-ghost use Rattle.delayed_auth.specs.Check.{sameBytes, checkOf, marksAfter, receivedAfter};
+ghost use Rattle.delayed_auth.specs.Check.{checkOf, marksAfter, receivedAfter};
 use crate::Verdict;
 use crate::admitted;
 use crate::mac_of;
@@ -12,20 +10,6 @@ use dhcp_message::Auth;
 use dhcp_message::Form;
 use key_book::Found;
 use refusal::Refusal;
-
-// Whether two MACs agree. Every byte is looked at, so that the time says nothing about where they differ.
-fn same_mac(a: [u8; 16], b: &[u8]) -> bool
-    requires { ⌜ length (now b) ≡ macSize ⌝ }
-    ensures { λ r. ⌜ r ≡ sameBytes (now (b .entry)) a ⌝ }
-{
-    let mut same = true;
-    let mut i: usize = 0;
-    while i < dhcp_message::MAC_SIZE {
-        same = same & (b[i] == a[i]);
-        i += 1;
-    }
-    same
-}
 
 // 10 to 12, of a message that passes 1 to 9. The counter is looked at before the MAC is computed (RFC 3118, section 5.3). On a heard row it must be
 // above the stored one: with replay method 0 the counter rises with every message (RFC 3118, section 2), so nothing new comes with the counter that
@@ -61,7 +45,7 @@ fn judged_full(
     let mac = mac_of(key_book::key_of(store, lengths, row), message, auth);
     let from = auth.at + dhcp_message::MAC_AT;
     let to = auth.at + dhcp_message::FULL_SIZE;
-    if !same_mac(mac, &message[from..to]) {
+    if !octets::same(&message[from..to], &mac) {
         return Verdict::Refused(Refusal::WrongMac);
     }
     Verdict::Accepted(row, auth.counter)

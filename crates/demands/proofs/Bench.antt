@@ -12,6 +12,7 @@ use Rattle.key_book.proofs.Says.{sound-says}
 use Rattle.key_book.proofs.Computed.{example-10}
 use Rattle.delayed_auth.specs.declared.Verdict.{Verdict}
 use Rattle.delayed_auth.specs.Check.{checkOf, verdictNumber}
+use Rattle.forcerenew.proofs.Computed.{nonce-examples}
 use Rattle.card_laws.specs.Examples.{bookB}
 use Rattle.card_laws.proofs.Computed.{example-1, marked-cards, example-2}
 use Rattle.demands.specs.Bench.{BenchTable}
@@ -56,4 +57,5 @@ bench-table = record {
   example-8-id = refl;
   example-8-counter = refl;
   example-10 = example-10;
+  example-11 = nonce-examples;
 }

@@ -7,6 +7,7 @@ use Rattle.demands.specs.Demand1.{Demand1}
 use Rattle.demands.proofs.DemandCheck.{check-number, check-keeps, key-number, key-empty}
 use Rattle.demands.proofs.DemandSeal.{seal-number, seal-keeps}
 use Rattle.demands.proofs.DemandDigests.{feed-number, finish-number, finish-zeros, digest-number, digest-zeros, hmac-number, hmac-zeros}
+use Rattle.demands.proofs.DemandJudge.{judge-number, judge-keeps}
 use Rattle.demands.proofs.DemandCards.{read-number, read-keeps, write-number, write-keeps, move-number, move-keeps}
 
 pub demand-1 : Demand1
@@ -31,4 +32,6 @@ demand-1 = record {
   card-write-keeps = write-keeps;
   card-move = move-number;
   card-move-keeps = move-keeps;
+  judge = judge-number;
+  judge-keeps = judge-keeps;
 }

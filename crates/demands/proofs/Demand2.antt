@@ -21,6 +21,8 @@ use Rattle.key_book.proofs.Says.{row-says, rows-within, key-is}
 use Rattle.demands.specs.Accepts.{Names, Seals}
 use Rattle.demands.specs.Demand2.{Demand2}
 use Rattle.hmac_md5.proofs.Masks.{hmac-size}
+use Rattle.forcerenew.specs.Judging.{Judgement, serversAfter}
+use Rattle.demands.proofs.DemandJudge.{heeded, nonce-stored, order-renews}
 use Rattle.demands.proofs.Stages.{check-accepts, end-check, accepted-accepts, key-names, end-key, keyed-names}
 use Rattle.demands.proofs.Stages.{SealedBy, seal-seals, end-seal, sealed-by}
 
@@ -96,4 +98,7 @@ demand-2 = record {
         new = u;
         right = w .right ∙ ap (λ (x : List ℕ). hmac x (imageOf n)) (sym q);
       };
+  heeded = heeded;
+  nonce-stored = nonce-stored;
+  order-stored = λ s k m c g. ap (λ (j : Judgement). serversAfter k j s) (order-renews s k m c g);
 }

@@ -1,15 +1,18 @@
 -- What an answer depends on, proved: the case that one book's answer is in (proofs/Stages.antt) is the other's too, where they agree in what it says.
 use mathlib.Core.Path.{_≡_, refl, sym, ap, ap₂, _∙_}
+use mathlib.Core.Bool.{Bool, _&&_, not}
 use mathlib.Core.List.{List, _++_}
 use mathlib.Core.Option.{Option, none, some}
-use Prim.Native.Nat.{ℕ, _+_, _<_}
+use Prim.Native.Nat.{ℕ, _+_, _≤_, _<_}
+use native.Mathlib.Decide.{ℕ-discrete, decLt}
+use borrow.Author.Tests.{eq-eqb, ne-eqb}
 use native.Mathlib.Omega.{arith}
 use lib.Dec.{eqb}
-use lib.ListN.{length, take, length-take}
+use lib.ListN.{length, getD, take, length-take}
 use lib.Seq.{getD-take, ext-getD}
 use Rattle.hmac_md5.specs.Hmac.{hmac}
 use Rattle.dhcp_message.specs.Layout.{macSize, sealSize}
-use Rattle.octets.specs.Bytes.{zeros}
+use Rattle.octets.specs.Bytes.{zeros, sameBytes}
 use Rattle.dhcp_message.specs.Said.{saidOf, formOf}
 use Rattle.dhcp_message.specs.Image.{imageOf}
 use Rattle.dhcp_message.specs.Replay.{isNew}
@@ -26,8 +29,15 @@ use Rattle.delayed_auth.specs.declared.Keyed.the-variants.{Row, NoKey}
 use Rattle.delayed_auth.specs.Check.{newTo, checkOf}
 use Rattle.delayed_auth.specs.Key.{keyedOf, keyBytes}
 use Rattle.delayed_auth.specs.Seal.{Outcome, sealOf}
+use Rattle.dhcp_message.specs.declared.Places.{Places}
+use Rattle.dhcp_message.proofs.Replays.{new-unheard}
+use Rattle.forcerenew.specs.Rows.{Servers, SoundRows, rowAt}
+use Rattle.forcerenew.specs.Judging.{Judgement, knownTo, newTo as serverNew, judgeOf}
+use Rattle.forcerenew.proofs.Soundness.{rows-say}
+use Rattle.forcerenew.proofs.Cases.{Placed, JudgeCase, judge-unsound, judge-unread, judge-no-row, judge-unfit, judge-takes, judge-knows, judge-no-nonce}
+use Rattle.forcerenew.proofs.Cases.{judge-replay, judge-wrong, judge-renews, judge-case, case-judge}
 use Rattle.demands.specs.Accepts.{Names}
-use Rattle.demands.specs.Dependence.{SameSecrets, SameForCheck, SameForSeal, SameInUse, Dependence}
+use Rattle.demands.specs.Dependence.{SameSecrets, SameForCheck, SameForSeal, SameForJudge, SameInUse, Dependence}
 use Rattle.demands.specs.Demand1.{Claims}
 use Rattle.hmac_md5.proofs.Masks.{hmac-size}
 use Rattle.demands.proofs.Below.{never}
@@ -193,6 +203,64 @@ module _ (a b : Book) (w : SameInUse a b) where
   in-use-seal : (id : ℕ) → SameForSeal a b id
   in-use-seal id = record { secrets = secrets; key = λ k s e. same-key k s (used id k e); sent = λ k s e. w .sent k (used id k e) }
 
+-- ---- a judgement by a nonce
+
+module _ (a b : Servers) (k : ℕ) (w : SameForJudge a b k) (s : SoundRows a) (row : k < length (a .marks)) where
+  mark : getD (a .marks) k 0 ≡ getD (b .marks) k 0
+  mark = w .mark s row
+
+  -- whether a nonce is the row's: with none yet it is not, whatever bytes stand there
+  same-known : (nonce : List ℕ) → knownTo (rowAt a k) nonce ≡ knownTo (rowAt b k) nonce
+  same-known nonce =
+      elim (ℕ-discrete (getD (a .marks) k 0) 0) [
+        | yes z ↦ rw (eq-eqb _ _ z, eq-eqb _ _ (sym mark ∙ z))
+        | no z ↦ ap₂ (λ (n : ℕ) (x : List ℕ). not (eqb n 0) && sameBytes nonce x) mark (w .nonce s row z)
+      ]
+
+  -- whether a counter is new to it: unless it is heard, whatever counter stands there
+  same-new : (c : ℕ) → serverNew (rowAt a k) c ≡ serverNew (rowAt b k) c
+  same-new c =
+      elim (ℕ-discrete (getD (a .marks) k 0) 2) [
+        | yes z ↦ ap₂ (λ (n x : ℕ). isNew (eqb n 2) x c) mark (w .counter s row z)
+        | no z ↦
+            ap (λ (t : Bool). isNew t (getD (a .counters) k 0) c) (ne-eqb _ _ z) ∙ new-unheard (getD (a .counters) k 0) c
+            ∙ sym (ap (λ (t : Bool). isNew t (getD (b .counters) k 0) c) (ne-eqb _ _ (λ y. z (mark ∙ y))) ∙ new-unheard (getD (b .counters) k 0) c)
+      ]
+
+sound-rows : (a : Servers) {k : ℕ} {m : List ℕ} {p : Places} → Placed a k m p → SoundRows a
+sound-rows a q = rows-say .sound a .0 (q .sound)
+
+placed-same : (a b : Servers) (k : ℕ) (m : List ℕ) → SameForJudge a b k → {p : Places} → Placed a k m p → Placed b k m p
+placed-same a b k m w q = record { sound = sym (w .soundness) ∙ q .sound; shape = q .shape; row = w .there .0 (q .row) }
+
+-- each end of a judgement on the one is an end of that on the other
+judge-same : (a b : Servers) (k : ℕ) (m : List ℕ) → SameForJudge a b k → (j : Judgement) → JudgeCase a k m j → JudgeCase b k m j
+judge-same a b k m w j (judge-unsound e) = judge-unsound (sym (w .soundness) ∙ e)
+judge-same a b k m w j (judge-unread e f) = judge-unread (sym (w .soundness) ∙ e) f
+judge-same a b k m w j (judge-no-row e f l) = judge-no-row (sym (w .soundness) ∙ e) f (missing (λ h. omega (arith, w .there .1 h)))
+  where
+    missing : (k < length (b .marks) → ⊥) → length (b .marks) ≤ k
+    missing n = elim (decLt k (length (b .marks))) [ yes h ↦ absurd (n h) | no h ↦ omega arith ]
+judge-same a b k m w j (judge-unfit q h) = judge-unfit (placed-same a b k m w q) h
+judge-same a b k m w j (judge-takes {nonce = nonce} q h e) =
+    judge-takes (placed-same a b k m w q) h (sym (same-known a b k w (sound-rows a q) (q .row) nonce) ∙ e)
+judge-same a b k m w j (judge-knows {nonce = nonce} q h e) =
+    judge-knows (placed-same a b k m w q) h (sym (same-known a b k w (sound-rows a q) (q .row) nonce) ∙ e)
+judge-same a b k m w j (judge-no-nonce q h e) = judge-no-nonce (placed-same a b k m w q) h (sym (w .mark (sound-rows a q) (q .row)) ∙ e)
+judge-same a b k m w j (judge-replay {c = c} q h n e) =
+    judge-replay (placed-same a b k m w q) h (λ z. n (w .mark (sound-rows a q) (q .row) ∙ z)) (sym (same-new a b k w (sound-rows a q) (q .row) c) ∙ e)
+judge-same a b k m w j (judge-wrong {c = c} {image = image} q h n e d) =
+    let s = sound-rows a q in
+    judge-wrong (placed-same a b k m w q) h (λ z. n (w .mark s (q .row) ∙ z)) (sym (same-new a b k w s (q .row) c) ∙ e)
+    (λ z. d (z ∙ ap (λ (x : List ℕ). hmac x image) (sym (w .nonce s (q .row) n))))
+judge-same a b k m w j (judge-renews {c = c} {image = image} q h n e d) =
+    let s = sound-rows a q in
+    judge-renews (placed-same a b k m w q) h (λ z. n (w .mark s (q .row) ∙ z)) (sym (same-new a b k w s (q .row) c) ∙ e)
+    (d ∙ ap (λ (x : List ℕ). hmac x image) (w .nonce s (q .row) n))
+
+judge-depends : (a b : Servers) (k : ℕ) (m : List ℕ) → SameForJudge a b k → judgeOf a k m ≡ judgeOf b k m
+judge-depends a b k m w = sym (case-judge b k m _ (judge-same a b k m w _ (judge-case a k m)))
+
 pub dependence : Dependence
 dependence = record {
   check = check-depends;
@@ -200,6 +268,7 @@ dependence = record {
   key-bytes = key-bytes-depend;
   seal = seal-depends;
   found-fields = fields-depend;
+  judge = judge-depends;
   check-in-use = λ a b m w. check-depends a b m (in-use-check a b w m);
   key-in-use = λ a b m w. key-bytes-depend a b m (secrets a b w) (same-found a b w m);
   seal-in-use = λ a b id m w. seal-depends a b id m (in-use-seal a b w id);

@@ -1,6 +1,6 @@
 -- The book against its history, proved. One step adds a counter that is new to the row to the accepted ones, stores it and marks the row heard, or adds
 -- none and leaves the row; so along a run the row is heard with the last of them, or as it was. That other secrets are not seen is proofs/Runs.antt for
--- two starts.
+-- two starts, and the channels of a secret say nothing of the server rows.
 use mathlib.Core.Path.{_≡_, refl, sym, ap, subst, _∙_}
 use mathlib.Core.Logic.{_≢_}
 use mathlib.Core.Bool.{true}
@@ -22,7 +22,7 @@ use Rattle.key_book.proofs.Says.{row-says, rows-within}
 use Rattle.delayed_auth.specs.declared.Verdict.{Verdict}
 use Rattle.delayed_auth.specs.declared.Verdict.the-variants.{Refused}
 use Rattle.delayed_auth.specs.Seal.{Outcome, sealed, unsealed, sealOf, sealingOf, sentAfter}
-use Rattle.demands.specs.Demand3.{Step, check, seal, bookAfter, ending, same}
+use Rattle.demands.specs.Demand3.{Step, check, seal, judge, State, bookAfter, stateAfter, ending, same}
 use Rattle.demands.specs.History.{counterIf, oneIf, acceptedAt, doneAt, acceptedIn, sealsIn, RisesFrom, RisesNew, Greatest}
 use Rattle.demands.specs.History.{Concerns, names-it, under-it, OnlyOthersDiffer, SameFor, History}
 use Rattle.demands.proofs.Stages.{sealed-by}
@@ -93,6 +93,7 @@ refused-none id (some j) r = refl
 module _ (id k : ℕ) where
   step-received : (b : Book) (s : Step) → Sound b → rowOf b id ≡ some k → Adds (hearing k b) (hearing k (bookAfter b s)) (acceptedAt id b s)
   step-received b (seal j m) s row = nothing refl
+  step-received b (judge j m) s row = nothing refl
   step-received b (check m) s row = on (hears b s m k)
     where
       on : {v : Verdict} {x : ℕ × ℕ} → Hears b m k v x → Adds (hearing k b) x (counterIf id (named m) v)
@@ -104,6 +105,7 @@ module _ (id k : ℕ) where
 
   step-sent : (b : Book) (s : Step) → Sound b → rowOf b id ≡ some k → getD (bookAfter b s .sent) k 0 ≡ getD (b .sent) k 0 + doneAt id b s
   step-sent b (check m) s row = omega arith
+  step-sent b (judge j m) s row = omega arith
   step-sent b (seal j m) s row = on (sealOf b j m) refl
     where
       on : (o : Outcome) → sealOf b j m ≡ o → getD (sentAfter o (b .sent)) k 0 ≡ getD (b .sent) k 0 + oneIf id j (sealingOf o)
@@ -123,68 +125,76 @@ module _ (id k : ℕ) where
   row-after : (b : Book) (x : Step) → Sound b → rowOf b id ≡ some k → rowOf (bookAfter b x) id ≡ some k
   row-after b x s row = row-kept b (bookAfter b x) (step-keeps b b x (ids-refl b s)) id ∙ row
 
-  rising : (b : Book) (run : List Step) → Sound b → rowOf b id ≡ some k → Rising (hearing k b) (acceptedIn id b run)
+  rising : (b : State) (run : List Step) → Sound (b .book) → rowOf (b .book) id ≡ some k → Rising (hearing k (b .book)) (acceptedIn id b run)
   rising b [] s row = tt
   rising b (x ∷ run) s row =
-      rises-on _ _ (acceptedAt id b x) _ (step-received b x s row) (rising (bookAfter b x) run (step-sound b s x) (row-after b x s row))
+      rises-on _ _ (acceptedAt id (b .book) x) _ (step-received (b .book) x s row)
+      (rising (stateAfter b x) run (step-sound (b .book) s x) (row-after (b .book) x s row))
 
-  ends-last : (b : Book) (run : List Step) → Sound b → rowOf b id ≡ some k → hearing k (ending b run) ≡ lastFrom (hearing k b) (acceptedIn id b run)
+  ends-last : (b : State) (run : List Step) → Sound (b .book) → rowOf (b .book) id ≡ some k
+      → hearing k (ending b run .book) ≡ lastFrom (hearing k (b .book)) (acceptedIn id b run)
   unfolding lastFrom
   ends-last b [] s row = refl
   ends-last b (x ∷ run) s row =
-      ends-last (bookAfter b x) run (step-sound b s x) (row-after b x s row)
-      ∙ last-on _ _ (acceptedAt id b x) (acceptedIn id (bookAfter b x) run) (step-received b x s row)
+      ends-last (stateAfter b x) run (step-sound (b .book) s x) (row-after (b .book) x s row)
+      ∙ last-on _ _ (acceptedAt id (b .book) x) (acceptedIn id (stateAfter b x) run) (step-received (b .book) x s row)
 
-  counts : (b : Book) (run : List Step) → Sound b → rowOf b id ≡ some k → getD (ending b run .sent) k 0 ≡ getD (b .sent) k 0 + sealsIn id b run
+  counts : (b : State) (run : List Step) → Sound (b .book) → rowOf (b .book) id ≡ some k
+      → getD (ending b run .book .sent) k 0 ≡ getD (b .book .sent) k 0 + sealsIn id b run
   counts b [] s row = omega arith
-  counts b (x ∷ run) s row = omega (arith, counts (bookAfter b x) run (step-sound b s x) (row-after b x s row), step-sent b x s row)
+  counts b (x ∷ run) s row =
+      omega (arith, counts (stateAfter b x) run (step-sound (b .book) s x) (row-after (b .book) x s row), step-sent (b .book) x s row)
 
-  stays : (b : Book) (run : List Step) → Sound b → rowOf b id ≡ some k → acceptedIn id b run ≡ [] → hearing k (ending b run) ≡ hearing k b
+  stays : (b : State) (run : List Step) → Sound (b .book) → rowOf (b .book) id ≡ some k
+      → acceptedIn id b run ≡ [] → hearing k (ending b run .book) ≡ hearing k (b .book)
   unfolding lastFrom
-  stays b run s row e = ends-last b run s row ∙ ap (lastFrom (hearing k b)) e
+  stays b run s row e = ends-last b run s row ∙ ap (lastFrom (hearing k (b .book))) e
 
   -- where one was accepted, the row is heard and has the greatest of them
-  ends-heard : (b : Book) (run : List Step) → Sound b → rowOf b id ≡ some k → acceptedIn id b run ≢ []
-      → (getD (ending b run .marks) k 0 ≡ heard) × Greatest (getD (ending b run .received) k 0) (acceptedIn id b run)
+  ends-heard : (b : State) (run : List Step) → Sound (b .book) → rowOf (b .book) id ≡ some k → acceptedIn id b run ≢ []
+      → (getD (ending b run .book .marks) k 0 ≡ heard) × Greatest (getD (ending b run .book .received) k 0) (acceptedIn id b run)
   ends-heard b run s row f =
       subst (λ (x : ℕ × ℕ). (x .0 ≡ heard) × Greatest (x .1) (acceptedIn id b run)) (sym (ends-last b run s row))
       (on (acceptedIn id b run) f (rising b run s row))
     where
-      on : (cs : List ℕ) → cs ≢ [] → Rising (hearing k b) cs
-          → (lastFrom (hearing k b) cs .0 ≡ heard) × Greatest (lastFrom (hearing k b) cs .1) cs
+      on : (cs : List ℕ) → cs ≢ [] → Rising (hearing k (b .book)) cs
+          → (lastFrom (hearing k (b .book)) cs .0 ≡ heard) × Greatest (lastFrom (hearing k (b .book)) cs .1) cs
       on [] f h = absurd (f refl)
-      on (c ∷ cs) f h = (last-heard (hearing k b) c cs, greatest (hearing k b) c cs h)
+      on (c ∷ cs) f h = (last-heard (hearing k (b .book)) c cs, greatest (hearing k (b .book)) c cs h)
 
 -- ---- other secrets are not seen
 
-module _ (a b : Book) (sa : Sound a) (sb : Sound b) (id : ℕ) (w : OnlyOthersDiffer id a b) (run : List Step) where
-  kin : SameIds a b
+module _ (a b : State) (sa : Sound (a .book)) (sb : Sound (b .book)) (id : ℕ) (w : OnlyOthersDiffer id (a .book) (b .book)) (run : List Step) where
+  start : SameIds (a .book) (a .book)
+  start = ids-refl (a .book) sa
+
+  kin : SameIds (a .book) (b .book)
   kin = record { is-sound = sb; room = sym (w .room); ids = sym (w .ids) }
 
   carries : (i : ℕ) (s : Step) → getElem? run i ≡ some s → (t : Step) × (getElem? run i ≡ some t) × Alike s t
   carries i s e = (s, e, alike s s same)
 
   put-in : (p : ℕ) → p < length run → ((i : ℕ) → i < length run → i ≢ p)
-      → (t : Step) × (getElem? run p ≡ some t) × ((c : Channel) → holds c (bookAfter (walk .bookAt b run p) t) ≡ holds c (walk .bookAt b run p))
+      → (t : Step) × (getElem? run p ≡ some t) × ((c : Channel) → holds c (stateAfter (walk .stateAt b run p) t) ≡ holds c (walk .stateAt b run p))
   put-in p l f = absurd (f p l refl)
 
-  its-received : (k : ℕ) → rowOf a id ≡ some k → holds (receives k) a ≡ holds (receives k) b
+  its-received : (k : ℕ) → rowOf (a .book) id ≡ some k → holds (receives k) a ≡ holds (receives k) b
   its-received k e = λ i. (w .key k e i, (w .mark k e i, w .received k e i))
 
-  its-sent : (k : ℕ) → rowOf a id ≡ some k → holds (sends k) a ≡ holds (sends k) b
+  its-sent : (k : ℕ) → rowOf (a .book) id ≡ some k → holds (sends k) a ≡ holds (sends k) b
   its-sent k e = λ i. (w .key k e i, w .sent k e i)
 
-  starts : (s : Step) → Concerns id s → (c : Channel) → channel a s ≡ some c → holds c a ≡ holds c b
-  starts s (names-it {m = m} e) c f = let x = check-channel a m id c e f in rw (x .1) (its-received (x .0) (x .2))
-  starts s (under-it {m = m}) c f = let x = seal-channel a m id c f in rw (x .1) (its-sent (x .0) (x .2))
+  starts : (s : Step) → Concerns id s → (c : Channel) → channel (a .book) s ≡ some c → holds c a ≡ holds c b
+  starts s (names-it {m = m} e) c f = let x = check-channel (a .book) m id c e f in rw (x .1) (its-received (x .0) (x .2))
+  starts s (under-it {m = m}) c f = let x = seal-channel (a .book) m id c f in rw (x .1) (its-sent (x .0) (x .2))
 
   ends : (c : Channel) → holds c a ≡ holds c b → holds c (ending b run) ≡ holds c (ending a run)
-  ends = same-ends walk (local a) channel? a b (ids-refl a sa) kin run run (λ i. i) carries (λ i j s t c e f g h l. l) put-in
+  ends = same-ends walk (local (a .book)) channel? a b start kin run run (λ i. i) carries (λ i j s t c e f g h l. l) put-in
 
   unseen : SameFor id a b run
   unseen = record {
     same-answers = λ i s e q. sym
-        (same-answer walk (local a) channel? a b (ids-refl a sa) kin run run (λ i. i) carries (λ i j s t c e f g h l. l) put-in i s e (starts s q));
+        (same-answer walk (local (a .book)) channel? a b start kin run run (λ i. i) carries (λ i j s t c e f g h l. l) put-in i s e (starts s q));
     same-mark = λ k e. sym (λ i. ends (receives k) (its-received k e) i .1 .0);
     same-received = λ k e. sym (λ i. ends (receives k) (its-received k e) i .1 .1);
     same-sent = λ k e. sym (λ i. ends (sends k) (its-sent k e) i .1);

@@ -8,7 +8,7 @@ use Rattle.octets.specs.Bytes.{Bytes}
 use Rattle.dhcp_message.specs.Said.{says, saidOf}
 use Rattle.dhcp_message.proofs.Seals.{seal-laws}
 use Rattle.delayed_auth.specs.Seal.{counterMost}
-use Rattle.demands.specs.Demand3.{check, bookAt}
+use Rattle.demands.specs.Demand3.{check, stateAt}
 use Rattle.demands.specs.LastCounter.{LastCounter}
 use Rattle.demands.proofs.Below.{said-form}
 use Rattle.demands.proofs.Stages.{accepted-accepts}
@@ -23,6 +23,6 @@ counter-fits m c id mac h e =
 
 pub last-counter : LastCounter
 last-counter b s run i j m n k c l e f g h a =
-    let x = accepted-accepts (bookAt b run j) n k c (accepted-there b s run j n k c g a) in
+    let x = accepted-accepts (stateAt b run j .book) n k c (accepted-there b s run j n k c g a) in
     let old = old-after b s run i j m k counterMost l e f (lt-at run j (check n) g) c (omega (arith, counter-fits n c (x .id) (x .mac) h (x .form))) in
     true≢false (sym (x .new) ∙ old)

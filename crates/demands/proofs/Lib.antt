@@ -1,5 +1,6 @@
 pub mod Below
 pub mod Stages
+pub mod DemandJudge
 pub mod Demand2
 pub mod Dependence
 pub mod Channel

@@ -32,40 +32,40 @@ module _ {A : Type 0} where
 pub record Walk {State Step Answer : Type 0} (answerOf : State → Step → Answer) (after : State → Step → State) : Type 0 where
   pub answers : State → List Step → List Answer
   pub ending : State → List Step → State
-  pub bookAt : State → List Step → ℕ → State
+  pub stateAt : State → List Step → ℕ → State
   pub answers-next : (b : State) (s : Step) (l : List Step) → answers b (s ∷ l) ≡ answerOf b s ∷ answers (after b s) l
   pub ending-none : (b : State) → ending b [] ≡ b
   pub ending-next : (b : State) (s : Step) (l : List Step) → ending b (s ∷ l) ≡ ending (after b s) l
-  pub book-at-none : (b : State) (i : ℕ) → bookAt b [] i ≡ b
-  pub book-at-first : (b : State) (s : Step) (l : List Step) → bookAt b (s ∷ l) 0 ≡ b
-  pub book-at-next : (b : State) (s : Step) (l : List Step) (i : ℕ) → bookAt b (s ∷ l) (suc i) ≡ bookAt (after b s) l i
+  pub state-at-none : (b : State) (i : ℕ) → stateAt b [] i ≡ b
+  pub state-at-first : (b : State) (s : Step) (l : List Step) → stateAt b (s ∷ l) 0 ≡ b
+  pub state-at-next : (b : State) (s : Step) (l : List Step) (i : ℕ) → stateAt b (s ∷ l) (suc i) ≡ stateAt (after b s) l i
 
 module _ {State Step Answer : Type 0} {answerOf : State → Step → Answer} {after : State → Step → State} (run : Walk answerOf after) where
   pub answer-at : (b : State) (l : List Step) (i : ℕ) (s : Step) → getElem? l i ≡ some s
-      → getElem? (run .answers b l) i ≡ some (answerOf (run .bookAt b l i) s)
+      → getElem? (run .answers b l) i ≡ some (answerOf (run .stateAt b l i) s)
   answer-at b [] i s e = cc
-  answer-at b (x ∷ l) zero s e = rw (run .answers-next b x l, run .book-at-first b x l) cc
-  answer-at b (x ∷ l) (suc i) s e = rw (run .answers-next b x l, run .book-at-next b x l i) (answer-at (after b x) l i s e)
+  answer-at b (x ∷ l) zero s e = rw (run .answers-next b x l, run .state-at-first b x l) cc
+  answer-at b (x ∷ l) (suc i) s e = rw (run .answers-next b x l, run .state-at-next b x l i) (answer-at (after b x) l i s e)
 
-  pub book-at-zero : (b : State) (l : List Step) → run .bookAt b l 0 ≡ b
-  book-at-zero b [] = run .book-at-none b 0
-  book-at-zero b (x ∷ l) = run .book-at-first b x l
+  pub state-at-zero : (b : State) (l : List Step) → run .stateAt b l 0 ≡ b
+  state-at-zero b [] = run .state-at-none b 0
+  state-at-zero b (x ∷ l) = run .state-at-first b x l
 
-  pub next-at : (b : State) (l : List Step) (i : ℕ) (s : Step) → getElem? l i ≡ some s → run .bookAt b l (suc i) ≡ after (run .bookAt b l i) s
+  pub next-at : (b : State) (l : List Step) (i : ℕ) (s : Step) → getElem? l i ≡ some s → run .stateAt b l (suc i) ≡ after (run .stateAt b l i) s
   next-at b [] i s e = cc
-  next-at b (x ∷ l) zero s e = rw (run .book-at-next b x l 0, run .book-at-first b x l, book-at-zero (after b x) l) cc
-  next-at b (x ∷ l) (suc i) s e = rw (run .book-at-next b x l (suc i), run .book-at-next b x l i) (next-at (after b x) l i s e)
+  next-at b (x ∷ l) zero s e = rw (run .state-at-next b x l 0, run .state-at-first b x l, state-at-zero (after b x) l) cc
+  next-at b (x ∷ l) (suc i) s e = rw (run .state-at-next b x l (suc i), run .state-at-next b x l i) (next-at (after b x) l i s e)
 
-  pub end-at : (b : State) (l : List Step) → run .bookAt b l (length l) ≡ run .ending b l
-  end-at b [] = run .book-at-none b 0 ∙ sym (run .ending-none b)
-  end-at b (x ∷ l) = rw (run .book-at-next b x l (length l), run .ending-next b x l) (end-at (after b x) l)
+  pub end-at : (b : State) (l : List Step) → run .stateAt b l (length l) ≡ run .ending b l
+  end-at b [] = run .state-at-none b 0 ∙ sym (run .ending-none b)
+  end-at b (x ∷ l) = rw (run .state-at-next b x l (length l), run .ending-next b x l) (end-at (after b x) l)
 
   -- what every step keeps holds of every state of a run
   pub inv-at : (Inv : State → Type 0) → ((b : State) (s : Step) → Inv b → Inv (after b s)) → (b : State) (l : List Step) (i : ℕ)
-      → Inv b → Inv (run .bookAt b l i)
-  inv-at Inv f b [] i h = rw (run .book-at-none b i) h
-  inv-at Inv f b (x ∷ l) zero h = rw (run .book-at-first b x l) h
-  inv-at Inv f b (x ∷ l) (suc i) h = rw (run .book-at-next b x l i) (inv-at Inv f (after b x) l i (f b x h))
+      → Inv b → Inv (run .stateAt b l i)
+  inv-at Inv f b [] i h = rw (run .state-at-none b i) h
+  inv-at Inv f b (x ∷ l) zero h = rw (run .state-at-first b x l) h
+  inv-at Inv f b (x ∷ l) (suc i) h = rw (run .state-at-next b x l i) (inv-at Inv f (after b x) l i (f b x h))
 
   pub inv-end : (Inv : State → Type 0) → ((b : State) (s : Step) → Inv b → Inv (after b s)) → (b : State) (l : List Step)
       → Inv b → Inv (run .ending b l)
@@ -73,8 +73,8 @@ module _ {State Step Answer : Type 0} {answerOf : State → Step → Answer} {af
 
   -- what no step from i to j breaks
   pub kept-on : (P : State → Type 0) (b : State) (l : List Step) (i j : ℕ) → i ≤ j → j ≤ length l
-      → ((p : ℕ) (s : Step) → i ≤ p → p < j → getElem? l p ≡ some s → P (run .bookAt b l p) → P (after (run .bookAt b l p) s))
-      → P (run .bookAt b l i) → P (run .bookAt b l j)
+      → ((p : ℕ) (s : Step) → i ≤ p → p < j → getElem? l p ≡ some s → P (run .stateAt b l p) → P (after (run .stateAt b l p) s))
+      → P (run .stateAt b l i) → P (run .stateAt b l j)
   kept-on P b l i zero q m h g = let e : i ≡ 0 = omega arith in rw (← e) g
   kept-on P b l i (suc j) q m h g =
       elim (decLe i j) [
@@ -116,12 +116,12 @@ module _
     (order : (i j : ℕ) (s t : Step) (c : Ch) → getElem? first i ≡ some s → getElem? first j ≡ some t → channel s ≡ some c → channel t ≡ some c
     → i < j → place i < place j)
     (put-in : (p : ℕ) → p < length second → ((i : ℕ) → i < length first → place i ≢ p)
-    → (t : Step) × (getElem? second p ≡ some t) × ((c : Ch) → holds c (after (run .bookAt b second p) t) ≡ holds c (run .bookAt b second p)))
+    → (t : Step) × (getElem? second p ≡ some t) × ((c : Ch) → holds c (after (run .stateAt b second p) t) ≡ holds c (run .stateAt b second p)))
   where
-    good₁ : (i : ℕ) → Inv (run .bookAt a first i)
+    good₁ : (i : ℕ) → Inv (run .stateAt a first i)
     good₁ i = inv-at run Inv (local .kept) a first i good-a
 
-    good₂ : (p : ℕ) → Inv (run .bookAt b second p)
+    good₂ : (p : ℕ) → Inv (run .stateAt b second p)
     good₂ p = inv-at run Inv (local .kept) b second p good-b
 
     module _ (c : Ch) (start : holds c a ≡ holds c b) where
@@ -133,10 +133,10 @@ module _
       on? i = discrete same? (channelAt channel (getElem? first i)) (some c)
 
       fst : ℕ → C c
-      fst i = holds c (run .bookAt a first i)
+      fst i = holds c (run .stateAt a first i)
 
       snd : ℕ → C c
-      snd p = holds c (run .bookAt b second p)
+      snd p = holds c (run .stateAt b second p)
 
       inside : (i : ℕ) → i < length first → On i → place i < length second
       inside i l o =
@@ -159,7 +159,7 @@ module _
 
       begins : fst 0 ≡ snd 0
       unfolding fst snd
-      begins = rw (book-at-zero run a first, book-at-zero run b second) start
+      begins = rw (state-at-zero run a first, state-at-zero run b second) start
 
       off₂ : (p : ℕ) → p < length second → ((i : ℕ) → i < length first → On i → place i ≢ p) → snd (suc p) ≡ snd p
       unfolding On snd
@@ -182,7 +182,7 @@ module _
           rw (next-at run a first i (s .0) (s .1), next-at run b second (place i) (t .0) (t .1))
           (local .change (s .0) (t .0) (t .2) c (rw (s .1) at o) _ _ (good₁ i) (good₂ (place i)) e)
 
-      held : (i : ℕ) → i < length first → On i → holds c (run .bookAt a first i) ≡ holds c (run .bookAt b second (place i))
+      held : (i : ℕ) → i < length first → On i → holds c (run .stateAt a first i) ≡ holds c (run .stateAt b second (place i))
       unfolding fst snd
       held = Channel.at (length first) (length second) place On on? fst snd inside inOrder begins off₁ off₂ on
 

@@ -1,12 +1,15 @@
--- The laws of checks and seals, which is all that runs need to know of them: a step leaves a sound book sound and an id has one row; a relay
+-- The laws of steps, which is all that runs need to know of them. Of checks and seals: a step leaves a sound book sound and an id has one row; a relay
 -- change is not seen; a check reads the key, the mark and the received counter of one row and writes the last two, a seal reads a key and a sent
--- counter of one row and writes that counter; an accepted counter is new to its row, and no counter that is not new to a row ever is again.
-use mathlib.Core.Path.{_≡_, refl, sym, _∙_}
+-- counter of one row and writes that counter; an accepted counter is new to its row, and no counter that is not new to a row ever is again. Of
+-- judgements: rows are as many as at the start, and sound or not as they were; an order that was believed is a replay as long as its row is heard with
+-- its counter or a larger one, and only another nonce ends that.
+use mathlib.Core.Path.{_≡_, refl, sym, ap, _∙_}
 use mathlib.Core.Logic.{_≢_, inr}
 use mathlib.Core.Bool.{Bool, true, false}
 use mathlib.Core.List.{List}
 use mathlib.Core.Option.{some}
 use Prim.Native.Nat.{ℕ, _≤_, _<_}
+use native.Mathlib.Nat.{le-refl, le-of-lt}
 use native.Mathlib.Decide.{ℕ-discrete}
 use native.Mathlib.Omega.{arith}
 use lib.Dec.{eqb}
@@ -26,9 +29,16 @@ use Rattle.delayed_auth.specs.declared.Verdict.{Verdict}
 use Rattle.delayed_auth.specs.declared.Verdict.the-variants.{Accepted, Refused}
 use Rattle.delayed_auth.specs.Check.{newTo, checkOf, marksAfter, receivedAfter}
 use Rattle.delayed_auth.specs.Seal.{Outcome, sealed, unsealed, sealOf, sentAfter}
-use Rattle.demands.specs.Accepts.{Accepts, Names}
+use Rattle.forcerenew.specs.Layout.{givesNonce, ordersRenewal}
+use Rattle.forcerenew.specs.Rows.{noneYet, Servers, SoundRows, soundRows}
+use Rattle.forcerenew.specs.declared.Judged.the-variants.{Accepted as Heeded}
+use Rattle.forcerenew.specs.Judging.{Judgement, takes, knows, renews, refused, judgeOf, judgedOf}
+use Rattle.forcerenew.proofs.Stored.{rows-kept, room-kept, sound-kept, unsound-kept}
+use Rattle.forcerenew.proofs.Stored.{Heard, renews-heard, renews-above, heard-beside, heard-replays}
+use Rattle.demands.specs.Accepts.{Accepts, Names, GivesNonce, Heeds, nonce-given, renewal-ordered, Stores, had-it, took-it}
 use Rattle.demands.specs.Dependence.{SameSecrets}
-use Rattle.demands.specs.Demand3.{Step, check, seal, bookAfter}
+use Rattle.demands.specs.Demand3.{Step, check, seal, judge, bookAfter, rowsAfter, OtherNonce}
+use Rattle.demands.proofs.Below.{never}
 use Rattle.demands.proofs.Stages.{check-replay, end-check, accepted-accepts, accepts-claims, claims-names}
 use Rattle.demands.proofs.Demand2.{demand-2}
 use Rattle.demands.proofs.Dependence.{check-same, seal-depends}
@@ -113,6 +123,7 @@ step-sound b s (check m) =
     counters-sound b _ _ _ (marks-size (checkOf b m) (b .marks)) (received-size (checkOf b m) (b .received)) refl
     (λ k l. hears-fits b s m k l (hears b s m k)) s
 step-sound b s (seal id m) = counters-sound b _ _ _ refl refl (sent-size (sealOf b id m) (b .sent)) (s .marks-fit) s
+step-sound b s (judge k m) = s
 
 -- ---- the books of a run: sound, with the ids, the row count and the room of the first one
 
@@ -141,6 +152,7 @@ module _ (a b : Book) (w : SameIds a b) where
 pub step-keeps : (a b : Book) (s : Step) → SameIds a b → SameIds a (bookAfter b s)
 step-keeps a b (check m) h = record { is-sound = step-sound b (h .is-sound) (check m); room = h .room; ids = h .ids }
 step-keeps a b (seal id m) h = record { is-sound = step-sound b (h .is-sound) (seal id m); room = h .room; ids = h .ids }
+step-keeps a b (judge k m) h = h
 
 -- an id has one row
 pub single : (b : Book) (i j k : ℕ) → rowOf b i ≡ some k → rowOf b j ≡ some k → i ≡ j
@@ -204,6 +216,7 @@ old-then b m k c d s e l = rw e (on (rw e at (hears b s m k)))
 -- a counter that is not new to a row is not new to it after any step: the row was heard, so it has a larger counter now or is as it was
 pub stays-old : (b : Book) (s : Step) (k c : ℕ) → Sound b → newTo b k c ≡ false → newTo (bookAfter b s) k c ≡ false
 stays-old b (seal id m) k c h old = old
+stays-old b (judge j m) k c h old = old
 stays-old b (check m) k c h old = on (hears b h m k)
   where
     on : {v : Verdict} {x : ℕ × ℕ} → Hears b m k v x → newWith x c ≡ false
@@ -220,3 +233,97 @@ not-accepted b m s h = on (checkOf b m) refl
     on : (v : Verdict) → checkOf b m ≡ v → bookAfter b (check m) ≡ b
     on (Accepted k c) e = absurd (h k c (demand-2 .accepted b s m k c .0 e))
     on (Refused r) e = rw e
+
+-- ---- the server rows of a run: as many as at the start, and sound or not as they were then
+
+pub record SameRows (a b : Servers) : Type 0 where
+  pub soundness : soundRows b ≡ soundRows a
+  pub room : length (b .marks) ≡ length (a .marks)
+
+pub rows-refl : (s : Servers) → SameRows s s
+rows-refl s = record { soundness = refl; room = refl }
+
+pub rows-keep : (a b : Servers) (s : Step) → SameRows a b → SameRows a (rowsAfter b s)
+rows-keep a b (check m) h = h
+rows-keep a b (seal id m) h = h
+rows-keep a b (judge k m) h = record { soundness = sound-kept b k m ∙ h .soundness; room = room-kept b k m ∙ h .room }
+
+-- a step leaves sound rows sound, and rows that are not sound as they are
+pub rows-sound : (s : Servers) → SoundRows s → (t : Step) → SoundRows (rowsAfter s t)
+rows-sound s h (check m) = h
+rows-sound s h (seal id m) = h
+rows-sound s h (judge k m) = rows-kept s k m h
+
+pub rows-unsound : (s : Servers) → soundRows s ≡ false → (t : Step) → rowsAfter s t ≡ s
+rows-unsound s e (check m) = refl
+rows-unsound s e (seal id m) = refl
+rows-unsound s e (judge k m) = unsound-kept s k m e
+
+-- a judgement that demand 2 doesn't accept leaves the rows as they are
+pub not-heeded : (s : Servers) (k : ℕ) (m : List ℕ) → ((type c : ℕ) → Heeds s k m type c → ⊥) → rowsAfter s (judge k m) ≡ s
+not-heeded s k m h = on (judgeOf s k m) refl
+  where
+    accepted : {A : Type 0} (type c : ℕ) → judgedOf (judgeOf s k m) ≡ Heeded type c → A
+    accepted type c e = absurd (h type c (demand-2 .heeded s k m type c .0 e))
+
+    on : (x : Judgement) → judgeOf s k m ≡ x → rowsAfter s (judge k m) ≡ s
+    on (takes c nonce) e = accepted givesNonce c (ap judgedOf e)
+    on (knows c) e = accepted givesNonce c (ap judgedOf e)
+    on (renews c) e = accepted ordersRenewal c (ap judgedOf e)
+    on (refused r) e = rw e
+
+-- ---- orders that were believed
+
+-- only an order is accepted with its type
+order-renews : (x : Judgement) (c : ℕ) → judgedOf x ≡ Heeded ordersRenewal c → x ≡ renews c
+order-renews (takes d nonce) c e = let z : _≡_ {A = ℕ} 1 2 = cc in absurd (omega arith)
+order-renews (knows d) c e = let z : _≡_ {A = ℕ} 1 2 = cc in absurd (omega arith)
+order-renews (renews d) c e = let z : d ≡ c = cc in ap renews z
+order-renews (refused r) c e = never cc
+
+-- it leaves its row heard with its counter, and where a row is so it is a replay
+pub order-heard : (s : Servers) (k : ℕ) (m : List ℕ) (c : ℕ) → judgedOf (judgeOf s k m) ≡ Heeded ordersRenewal c → Heard (rowsAfter s (judge k m)) k c
+order-heard s k m c e = renews-heard s k m c c (order-renews (judgeOf s k m) c e) (le-refl c)
+
+pub order-again : (s t : Servers) (k : ℕ) (m : List ℕ) (c : ℕ) → judgedOf (judgeOf s k m) ≡ Heeded ordersRenewal c → Heard t k c
+    → judgeOf t k m ≡ refused Replay
+order-again s t k m c e h = heard-replays s t k m c (order-renews (judgeOf s k m) c e) h
+
+-- and what is accepted with the other type gives a nonce
+pub nonce-gives : (s : Servers) (k : ℕ) (m : List ℕ) (c : ℕ) → judgedOf (judgeOf s k m) ≡ Heeded givesNonce c → (nonce : List ℕ) × GivesNonce s k m c nonce
+nonce-gives s k m c e = on (demand-2 .heeded s k m givesNonce c .0 e) refl
+  where
+    on : {type d : ℕ} → Heeds s k m type d → type ≡ givesNonce → (nonce : List ℕ) × GivesNonce s k m d nonce
+    on (nonce-given {nonce = nonce} g) f = (nonce, g)
+    on (renewal-ordered w) f = absurd (omega arith)
+
+-- a nonce given to a heard row that is not another one leaves it so
+nonce-known : (s : Servers) (k : ℕ) (m : List ℕ) (c d : ℕ) (nonce : List ℕ) → (OtherNonce s k m → ⊥) → Heard s k c → GivesNonce s k m d nonce
+    → Heard (rowsAfter s (judge k m)) k c
+nonce-known s k m c d nonce none h g = on (demand-2 .nonce-stored s k m d nonce g)
+  where
+    there : getD (s .marks) k 0 ≢ noneYet
+    there = omega (arith, h .mark)
+
+    on : {t : Servers} → Stores s k nonce t → Heard t k c
+    on (had-it w) = h
+    on (took-it f) = absurd (none (record { counter = d; nonce = nonce; gives = g; other = λ e. f (record { there = there; same = e }) }))
+
+-- a row that is heard with a counter, or a larger one, stays so: only another nonce for it begins anew
+pub stays-heard : (s : Servers) (t : Step) (k c : ℕ) → ((m : List ℕ) → t ≡ judge k m → OtherNonce s k m → ⊥) → Heard s k c → Heard (rowsAfter s t) k c
+stays-heard s (check m) k c none h = h
+stays-heard s (seal id m) k c none h = h
+stays-heard s (judge j m) k c none h =
+    elim (ℕ-discrete k j) [
+      | no g ↦ heard-beside s j k m c g h
+      | yes g ↦ rw (← g) (on (judgeOf s k m) refl (λ o. none m (ap (λ (i : ℕ). judge i m) (sym g)) o))
+    ]
+  where
+    given : (d : ℕ) → (OtherNonce s k m → ⊥) → judgedOf (judgeOf s k m) ≡ Heeded givesNonce d → Heard (rowsAfter s (judge k m)) k c
+    given d none e = let g = nonce-gives s k m d e in nonce-known s k m c d (g .0) none h (g .1)
+
+    on : (x : Judgement) → judgeOf s k m ≡ x → (OtherNonce s k m → ⊥) → Heard (rowsAfter s (judge k m)) k c
+    on (takes d nonce) e none = given d none (ap judgedOf e)
+    on (knows d) e none = given d none (ap judgedOf e)
+    on (renews d) e none = renews-heard s k m c d e (le-of-lt (renews-above s k m c d e h))
+    on (refused r) e none = rw e h

@@ -8,9 +8,9 @@ use Prim.Native.Nat.{ℕ, zero, suc, _≤_, _<_}
 use native.Mathlib.Decide.{ℕ-discrete, decLe, decLt}
 use native.Mathlib.Omega.{arith}
 use lib.ListN.{length, getElem?, length-map}
-use Rattle.demands.specs.Accepts.{Accepts}
-use Rattle.demands.specs.Demand3.{Step, check, bookAt, Carried, same, relayed, OneSecret, checks, seals}
-use Rattle.demands.specs.Woven.{Item, carries, puts-in, stepIn, runOf, Bound, Woven, rest, next, WovenIsRearranged}
+use Rattle.demands.specs.Demand3.{Step, check, seal, judge, State, stateAt, Carried, same, relayed, OneOrder, checks, seals, judgements}
+use Rattle.demands.specs.Demand3.{NotAccepted, no-check, no-judgement}
+use Rattle.demands.specs.Woven.{Item, carries, puts-in, stepIn, runOf, Bound, Woven, rest, next, Unaccepted, WovenIsRearranged}
 use Rattle.demands.proofs.Runs.{some-at}
 use Rattle.demands.proofs.Steps.{name-relayed}
 
@@ -74,13 +74,14 @@ up-inj n p q e =
 record Placed (first : List Step) (items : List Item) (place : ℕ → ℕ) : Type 0 where
   apart : (i j : ℕ) → i < length first → j < length first → place i ≡ place j → i ≡ j
   carried : (i : ℕ) (s : Step) → getElem? first i ≡ some s → (t : Step) × (getElem? items (place i) ≡ some (carries t)) × Carried s t
-  order : (i j : ℕ) (s t : Step) → getElem? first i ≡ some s → getElem? first j ≡ some t → OneSecret s t → i < j → place i < place j
+  order : (i j : ℕ) (s t : Step) → getElem? first i ≡ some s → getElem? first j ≡ some t → OneOrder s t → i < j → place i < place j
   cover : (p : ℕ) (t : Step) → getElem? items p ≡ some (carries t) → (i : ℕ) × (i < length first) × (place i ≡ p)
 
 -- a step bound to another by `Rearranged` is bound to it, carried or not
-bound : (s t u : Step) → OneSecret s t → Carried t u → Bound s u
+bound : (s t u : Step) → OneOrder s t → Carried t u → Bound s u
 bound s t u (checks e f) same = (_, e, f)
 bound s t u seals same = refl
+bound s t u judgements same = refl
 bound s t u (checks e f) (relayed {m = m} {n = n} p r) = (_, e, name-relayed m n r ∙ f)
 
 -- the first step put back: at length xs
@@ -103,8 +104,8 @@ module _ (s t : Step) (ss : List Step) (xs ys : List Item) (c : Carried s t)
   carried′ zero u e = (t, at-seam xs (carries t) ys, rw (← (Option·some-injective s u e)) c)
   carried′ (suc i) u e = let x = h .carried i u e in (x .0, at-up xs (carries t) ys (place i) ∙ x .1, x .2)
 
-  -- a later step of the same secret stands past it
-  past : (j : ℕ) (v : Step) → getElem? ss j ≡ some v → OneSecret s v → length xs ≤ place j
+  -- a later step of the same order stands past it
+  past : (j : ℕ) (v : Step) → getElem? ss j ≡ some v → OneOrder s v → length xs ≤ place j
   past j v b q =
       let x = h .carried j v b in
       elim (decLe (length xs) (place j)) [
@@ -112,7 +113,7 @@ module _ (s t : Step) (ss : List Step) (xs ys : List Item) (c : Carried s t)
         | no l ↦ absurd (f (place j) (x .0) (sym (at-front xs ys (place j) (omega arith)) ∙ x .1) (bound s v (x .0) q (x .2)))
       ]
 
-  order′ : (i j : ℕ) (u v : Step) → getElem? (s ∷ ss) i ≡ some u → getElem? (s ∷ ss) j ≡ some v → OneSecret u v → i < j → place′ i < place′ j
+  order′ : (i j : ℕ) (u v : Step) → getElem? (s ∷ ss) i ≡ some u → getElem? (s ∷ ss) j ≡ some v → OneOrder u v → i < j → place′ i < place′ j
   unfolding place′
   order′ i zero u v a b q l = absurd (omega arith)
   order′ zero (suc j) u v a b q l = up-past (length xs) (place j) (past j v b (rw (Option·some-injective s u a) q))
@@ -146,6 +147,12 @@ placed (next {s = s} {t = t} {ss = ss} xs ys e c f w) =
     let h = placed w in
     (place′ s t ss xs ys c f (h .0) (h .1), rw e (add s t ss xs ys c f (h .0) (h .1)))
 
+-- what is not accepted may be put in
+may-put-in : (b : State) (t : Step) → Unaccepted b t → NotAccepted b t
+may-put-in b (check m) f = no-check f
+may-put-in b (seal id m) f = absurd f
+may-put-in b (judge k m) f = no-judgement f
+
 at-run : (items : List Item) (p : ℕ) (z : Item) → getElem? items p ≡ some z → getElem? (runOf items) p ≡ some (stepIn z)
 at-run [] p z e = absurd (Option·none-ne-some z e)
 at-run (x ∷ items) zero z e = ap (λ (o : Item). some (stepIn o)) (Option·some-injective x z e)
@@ -167,6 +174,6 @@ woven-is-rearranged b first items w x =
   where
     -- an item that is no place of a step was put in
     not-carried : (p : ℕ) → ((t : Step) → getElem? items p ≡ some (carries t) → ⊥) → (z : Item) → getElem? items p ≡ some z
-        → (m : List ℕ) × (getElem? (runOf items) p ≡ some (check m)) × ((k c : ℕ) → Accepts (bookAt b (runOf items) p) m k c → ⊥)
+        → (t : Step) × (getElem? (runOf items) p ≡ some t) × NotAccepted (stateAt b (runOf items) p) t
     not-carried p g (carries t) e = absurd (g t e)
-    not-carried p g (puts-in m) e = (m, at-run items p (puts-in m) e, x p m e)
+    not-carried p g (puts-in t) e = (t, at-run items p (puts-in t) e, may-put-in (stateAt b (runOf items) p) t (x p t e))

@@ -8,6 +8,7 @@ use Rattle.dhcp_message.specs.Said.{formOf, formNumber}
 use Rattle.dhcp_message.specs.Bench.{messageOf, fullAuth, someMac, relayInTheMiddle, BenchExamples}
 use Rattle.key_book.specs.Examples.{Example10}
 use Rattle.delayed_auth.specs.Check.{checkOf, verdictNumber}
+use Rattle.forcerenew.specs.Examples.{NonceExamples}
 use Rattle.card_laws.specs.Examples.{bookB, Example1, MarkedCards, Example2}
 
 -- the number of a check of the message on Book B
@@ -30,3 +31,5 @@ pub record BenchTable : Type 0 where
   pub example-8-id : numberOnB (forgedMessage 11 8) ≡ 10
   pub example-8-counter : numberOnB (forgedMessage 10 7) ≡ 11
   pub example-10 : Example10
+  -- by a nonce
+  pub example-11 : NonceExamples

@@ -1,19 +1,22 @@
 -- Demand 1 (docs/RULES.md, 'The demands' and 'Numbers'): any bytes, any book. For each entry it is said when each of its numbers applies, in the
--- rules' words; the entry gives the lowest number that applies, 0 exactly where none does. A refusal alters nothing lent; with 14 the digest or
--- MAC handed back is 16 zero bytes.
+-- rules' words; the entry gives the lowest number that applies, 0 exactly where none does. The judgement by a nonce has an order of its own, and gives the
+-- first in it. A refusal alters nothing lent; with 14 the digest or MAC handed back is 16 zero bytes.
 -- Nothing is asked of the book; of a message and a card only that their elements are bytes. Its one proof is proofs/Demand1.antt.
-use Prim.Native.Nat.{ℕ, _+_, _<_}
+use Prim.Native.Nat.{ℕ, _+_, _≤_, _<_}
 use mathlib.Core.Path.{_≡_}
-use mathlib.Core.Logic.{_≢_}
+use mathlib.Core.Logic.{_≢_, _⊎_}
 use mathlib.Core.Bool.{false}
-use mathlib.Core.List.{List, []}
+use mathlib.Core.List.{List, [], _∷_}
 use mathlib.Core.Option.{some}
-use lib.ListN.{length, getD}
-use Rattle.refusal.specs.Number.{done}
+use lib.ListN.{length, getD, take, drop}
+use Rattle.refusal.specs.Number.{numberOf, done}
 use Rattle.refusal.specs.Lowest.{Lowest}
+use Rattle.refusal.specs.First.{First}
 use Rattle.refusal.specs.declared.Refusal.{Refusal}
 use Rattle.refusal.specs.declared.Refusal.the-variants.{UnsoundBook, UnknownSecret, Replay, WrongMac, CounterSpent, TooLong}
 use Rattle.refusal.specs.declared.Refusal.the-variants.{MalformedCard, NoRoomForCard, NoRoomForRows, RowNotHeard}
+use Rattle.refusal.specs.declared.Refusal.the-variants.{MessageSize, WrongCookie, BrokenOptions, NoAuthentication, RepeatedAuthentication}
+use Rattle.refusal.specs.declared.Refusal.the-variants.{RelayInformation, OtherAuthentication, NotByNonce, WrongType, NoNonce}
 use Rattle.md5.specs.declared.Digest.{Digest}
 use Rattle.md5.specs.Block.{blockSize}
 use Rattle.md5.specs.Entries.{digestMost, noDigest, feedOf, finishOf, md5Of}
@@ -21,7 +24,10 @@ use Rattle.hmac_md5.specs.Hmac.{keyMost, hmac, hmacOf}
 use Rattle.octets.specs.Bytes.{Bytes}
 use Rattle.dhcp_message.specs.Said.{says, saidOf, named}
 use Rattle.dhcp_message.specs.Image.{imageOf}
+use Rattle.dhcp_message.specs.Layout.{lengthAt, methodAt}
 use Rattle.dhcp_message.specs.Numbers.{Applies}
+use Rattle.dhcp_message.specs.Types.{messageTypeOf}
+use Rattle.dhcp_message.specs.declared.MessageType.the-variants.{Stated}
 use Rattle.key_book.specs.Limits.{notHeard}
 use Rattle.key_book.specs.Book.{Book, Sized, Sound, rowOf, keyOf}
 use Rattle.key_book.specs.Laws.{NoRow}
@@ -34,6 +40,11 @@ use Rattle.book_card.specs.Card.{Row, emptyRow, cardOf, CardFor, NoCard}
 use Rattle.book_card.specs.Reading.{readOf, readBook, readNumber}
 use Rattle.book_card.specs.Writing.{rowsOf, writeOf, roomAfter, writeNumber}
 use Rattle.book_card.specs.Moving.{moveOf, roomMoved}
+use Rattle.forcerenew.specs.Layout.{nonceLength, byNonce, givesNonce, ordersRenewal, ackType, forcerenewType}
+use Rattle.forcerenew.specs.Rows.{noneYet, heard, Servers, SoundRows, nonceAt}
+use Rattle.forcerenew.specs.Shown.{counterIn, typeIn, valueIn, imageAt}
+use Rattle.forcerenew.specs.Judging.{judgeOf, judgedOf, judgedNumber, serversAfter}
+use Rattle.demands.specs.Accepts.{OptionAt}
 
 -- ---- when a number applies
 
@@ -90,6 +101,33 @@ pub data MoveApplies (wanted : CardForm) (card room : List ℕ) : Refusal → Ty
   not-heard : wanted ≡ Old → (rows : List Row) → CardFor rows card → (k : ℕ) → k < length rows → getD rows k emptyRow .mark ≡ notHeard
       → MoveApplies wanted card room RowNotHeard
 
+-- which types go with a message: 1 with an ACK, 2 with a FORCERENEW
+pub data GoesWith (m : List ℕ) : (type : ℕ) → Type 0 where
+  nonce-in-ack : messageTypeOf m ≡ Stated ackType → GoesWith m givesNonce
+  mac-in-forcerenew : messageTypeOf m ≡ Stated forcerenewType → GoesWith m ordersRenewal
+
+-- the order in which a judgement by a nonce looks for refusals, whatever their numbers: 1, 2 to 7, 10, 19, 20, 21, 11, 12
+abbrev pub judgingOrder : List Refusal
+judgingOrder =
+    UnsoundBook
+    ∷ MessageSize ∷ WrongCookie ∷ BrokenOptions ∷ NoAuthentication ∷ RepeatedAuthentication ∷ RelayInformation
+    ∷ UnknownSecret ∷ NotByNonce ∷ WrongType ∷ NoNonce ∷ Replay ∷ WrongMac ∷ []
+
+-- a judgement by a nonce: the sizes disagree or a mark is none of the three; 2 to 7 as the message has it; there is no such row; option 90's length is not
+-- 28, or its first three bytes are not 3, 1, 0; its type doesn't go with option 53; and of type 2: the row has no nonce yet; it is heard and its counter
+-- is not below; the MAC differs
+pub data JudgeApplies (s : Servers) (k : ℕ) (m : List ℕ) : Refusal → Type 0 where
+  not-sound : (SoundRows s → ⊥) → JudgeApplies s k m UnsoundBook
+  by-shape : {r : Refusal} → Applies m r → numberOf r < numberOf OtherAuthentication → JudgeApplies s k m r
+  no-row : length (s .marks) ≤ k → JudgeApplies s k m UnknownSecret
+  other-form : (o : ℕ) → OptionAt m o → (getD m (o + lengthAt) 0 ≢ nonceLength) ⊎ (take (length byNonce) (drop (o + methodAt) m) ≢ byNonce)
+      → JudgeApplies s k m NotByNonce
+  wrong-type : (o : ℕ) → OptionAt m o → (GoesWith m (typeIn m o) → ⊥) → JudgeApplies s k m WrongType
+  no-nonce : (o : ℕ) → OptionAt m o → typeIn m o ≡ ordersRenewal → getD (s .marks) k 0 ≡ noneYet → JudgeApplies s k m NoNonce
+  not-new : (o : ℕ) → OptionAt m o → typeIn m o ≡ ordersRenewal → getD (s .marks) k 0 ≡ heard → counterIn m o ≤ getD (s .counters) k 0
+      → JudgeApplies s k m Replay
+  differs : (o : ℕ) → OptionAt m o → typeIn m o ≡ ordersRenewal → valueIn m o ≢ hmac (nonceAt s k) (imageAt m o) → JudgeApplies s k m WrongMac
+
 -- ---- demand 1: for every entry the number, and what a refusal leaves
 
 pub record Demand1 : Type 0 where
@@ -118,3 +156,6 @@ pub record Demand1 : Type 0 where
       → Lowest (MoveApplies wanted card room) (writeNumber (moveOf wanted card (length room)))
   pub card-move-keeps : (wanted : CardForm) (card room : List ℕ) → writeNumber (moveOf wanted card (length room)) ≢ done
       → roomMoved wanted card room ≡ room
+  -- the judgement by a nonce: the first in `judgingOrder` that applies
+  pub judge : (s : Servers) (k : ℕ) (m : List ℕ) → Bytes m → First judgingOrder (JudgeApplies s k m) (judgedNumber (judgedOf (judgeOf s k m)))
+  pub judge-keeps : (s : Servers) (k : ℕ) (m : List ℕ) → judgedNumber (judgedOf (judgeOf s k m)) ≢ done → serversAfter k (judgeOf s k m) s ≡ s

@@ -1,5 +1,5 @@
--- Demand 2 (docs/RULES.md, 'The demands'): what is accepted, whose key a message has, what is sealed, and that what we seal passes. Its one proof is
--- proofs/Demand2.antt.
+-- Demand 2 (docs/RULES.md, 'The demands'): what is accepted, whose key a message has, what is sealed, that what we seal passes, and what is accepted by a
+-- nonce. Its one proof is proofs/Demand2.antt.
 use Prim.Native.Nat.{ℕ, _*_, _^_, _<_}
 use mathlib.Core.Path.{_≡_}
 use mathlib.Core.Logic.{_↔_}
@@ -14,7 +14,10 @@ use Rattle.delayed_auth.specs.Check.{newTo, checkOf, marksAfter, receivedAfter}
 use Rattle.delayed_auth.specs.declared.Keyed.the-variants.{Row}
 use Rattle.delayed_auth.specs.Key.{keyedOf, keyBytes, keyOffset}
 use Rattle.delayed_auth.specs.Seal.{sealed, sealOf, sentAfter}
-use Rattle.demands.specs.Accepts.{Accepts, Names, Seals}
+use Rattle.forcerenew.specs.Rows.{heard as serverHeard, Servers}
+use Rattle.forcerenew.specs.Judging.{judgeOf, judgedOf, serversAfter}
+use Rattle.forcerenew.specs.declared.Judged.the-variants.{Accepted as Heeded}
+use Rattle.demands.specs.Accepts.{Accepts, Names, Seals, GivesNonce, OrdersRenewal, Heeds, Stores}
 
 pub record Demand2 : Type 0 where
   -- on a sound book a message is accepted exactly when form, secret, counter and HMAC are right
@@ -36,3 +39,12 @@ pub record Demand2 : Type 0 where
   -- a message we seal passes on any sound book with that key under that id, in a row that is not heard or has a lower received counter
   pub passes : (b d : Book) → Sound b → Lent b → Sound d → (id : ℕ) → id < 2 ^ 32 → (m : List ℕ) (k c : ℕ) (n : List ℕ) → sealOf b id m ≡ sealed k c n
       → (j : ℕ) → rowOf d id ≡ some j → keyOf d j ≡ keyOf b k → newTo d j c ≡ true → Accepts d n j c
+  -- whatever the server rows, a message is accepted by a nonce exactly when form, type, message type and row are right, and of a FORCERENEW nonce, counter
+  -- and MAC
+  pub heeded : (s : Servers) (k : ℕ) (m : List ℕ) (type c : ℕ) → (judgedOf (judgeOf s k m) ≡ Heeded type c) ↔ Heeds s k m type c
+  -- a nonce is then stored, unless the row has it
+  pub nonce-stored : (s : Servers) (k : ℕ) (m : List ℕ) (c : ℕ) (nonce : List ℕ) → GivesNonce s k m c nonce
+      → Stores s k nonce (serversAfter k (judgeOf s k m) s)
+  -- and of an order its counter, and the row is heard: counters and marks are the old ones but at k, and no nonce changes
+  pub order-stored : (s : Servers) (k : ℕ) (m : List ℕ) (c : ℕ) → OrdersRenewal s k m c
+      → serversAfter k (judgeOf s k m) s ≡ record { nonces = s .nonces; counters = set (s .counters) k c; marks = set (s .marks) k serverHeard }

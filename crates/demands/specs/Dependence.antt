@@ -1,8 +1,10 @@
--- What an entry's answer depends on, and that it depends on nothing else (docs/RULES.md, 'The key book', 'Check' and 'Seal'):
+-- What an entry's answer depends on, and that it depends on nothing else (docs/RULES.md, 'The key book', 'Check', 'Seal' and 'FORCERENEW by nonce'):
 -- on the soundness of the book and on the ids; then on the key, the mark and the counter of the row found. Not on another row's but through soundness,
--- not on slot bytes past a key, not on rows from r on. Its one proof is proofs/Dependence.antt.
+-- not on slot bytes past a key, not on rows from r on. A judgement's, on the soundness of the server rows and on the named row's mark, its nonce where it
+-- has one, its counter where it is heard. Its one proof is proofs/Dependence.antt.
 use Prim.Native.Nat.{ℕ, _+_, _*_, _<_}
 use mathlib.Core.Path.{_≡_}
+use mathlib.Core.Logic.{_≢_, _↔_}
 use mathlib.Core.List.{List}
 use mathlib.Core.Option.{some}
 use lib.ListN.{length, getD, take}
@@ -17,6 +19,8 @@ use Rattle.key_book.specs.Laws.{Alike}
 use Rattle.delayed_auth.specs.Check.{checkOf}
 use Rattle.delayed_auth.specs.Key.{keyedOf, keyBytes}
 use Rattle.delayed_auth.specs.Seal.{sealOf}
+use Rattle.forcerenew.specs.Rows.{noneYet, heard, Servers, SoundRows, soundRows, nonceAt}
+use Rattle.forcerenew.specs.Judging.{judgeOf}
 use Rattle.demands.specs.Accepts.{Names}
 
 -- two books agree in their soundness and in the ids of the rows in use
@@ -44,6 +48,15 @@ pub record SameInUse (a b : Book) : Type 0 where
   pub received : (k : ℕ) → k < a .rows → getD (a .received) k 0 ≡ getD (b .received) k 0
   pub sent : (k : ℕ) → k < a .rows → getD (a .sent) k 0 ≡ getD (b .sent) k 0
 
+-- two sets of server rows agree in all that a judgement of row k goes by: in whether they are sound, in whether row k is there, and where it is in its
+-- mark, in its nonce unless there is none yet, and in its counter where it is heard
+pub record SameForJudge (a b : Servers) (k : ℕ) : Type 0 where
+  pub soundness : soundRows a ≡ soundRows b
+  pub there : (k < length (a .marks)) ↔ (k < length (b .marks))
+  pub mark : SoundRows a → k < length (a .marks) → getD (a .marks) k 0 ≡ getD (b .marks) k 0
+  pub nonce : SoundRows a → k < length (a .marks) → getD (a .marks) k 0 ≢ noneYet → nonceAt a k ≡ nonceAt b k
+  pub counter : SoundRows a → k < length (a .marks) → getD (a .marks) k 0 ≡ heard → getD (a .counters) k 0 ≡ getD (b .counters) k 0
+
 pub record Dependence : Type 0 where
   pub check : (a b : Book) (m : List ℕ) → SameForCheck a b m → checkOf a m ≡ checkOf b m
   -- the key entry reads marks and counters through soundness alone
@@ -55,6 +68,8 @@ pub record Dependence : Type 0 where
   -- counter, id and MAC found in the message don't matter: with any others in their place the outcome is the same, and so are a sealed message's bytes
   pub found-fields : (b : Book) (id : ℕ) (m : List ℕ) (a : Auth) (other : List ℕ) → formOf m ≡ Full a → length other ≡ sealSize
       → sealOf b id (sealedWith a other m) ≡ sealOf b id m
+  -- a judgement by a nonce reads the message, whether the rows are sound, and its own row
+  pub judge : (a b : Servers) (k : ℕ) (m : List ℕ) → SameForJudge a b k → judgeOf a k m ≡ judgeOf b k m
   -- slot bytes past a key, and rows from r on, affect no answer
   pub check-in-use : (a b : Book) (m : List ℕ) → SameInUse a b → checkOf a m ≡ checkOf b m
   pub key-in-use : (a b : Book) (m : List ℕ) → SameInUse a b → keyBytes a (keyedOf a m) ≡ keyBytes b (keyedOf b m)

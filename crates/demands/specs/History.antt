@@ -1,5 +1,6 @@
 -- The book against its history, for the runs of demand 3 (docs/RULES.md, 'Runs'): what mark and counters of a secret at the end of a run say of what
--- happened in it, and that one secret's story doesn't depend on another's. For runs of checks and seals. Its one proof is proofs/History.antt.
+-- happened in it, and that one secret's story doesn't depend on another's, nor on the server rows. For runs of checks, seals and judgements; it speaks of
+-- secrets, and the server rows' own history is not here. Its one proof is proofs/History.antt.
 use Prim.Native.Nat.{ℕ, _+_, _≤_, _<_}
 use mathlib.Core.Path.{_≡_}
 use mathlib.Core.Logic.{_≢_}
@@ -18,7 +19,7 @@ use Rattle.delayed_auth.specs.declared.Sealing.{Sealing}
 use Rattle.delayed_auth.specs.declared.Sealing.the-variants.{Sealed, Unsealed}
 use Rattle.delayed_auth.specs.Check.{checkOf}
 use Rattle.delayed_auth.specs.Seal.{sealOf, sealingOf}
-use Rattle.demands.specs.Demand3.{Step, check, seal, bookAfter, answers, ending}
+use Rattle.demands.specs.Demand3.{Step, check, seal, judge, State, stateAfter, answers, ending}
 
 -- ---- what happened in a run
 
@@ -33,24 +34,26 @@ abbrev pub oneIf : ℕ → ℕ → Sealing → ℕ
 oneIf id j (Unsealed r) = 0
 oneIf id j (Sealed c) = cond (eqb j id) 1 0
 
--- what a step adds to the secret's accepted counters, and to its seals done
+-- what a step adds to the secret's accepted counters, and to its seals done; a judgement adds nothing
 abbrev pub acceptedAt : ℕ → Book → Step → List ℕ
 acceptedAt id b (check m) = counterIf id (named m) (checkOf b m)
 acceptedAt id b (seal j m) = []
+acceptedAt id b (judge k m) = []
 
 abbrev pub doneAt : ℕ → Book → Step → ℕ
 doneAt id b (check m) = 0
 doneAt id b (seal j m) = oneIf id j (sealingOf (sealOf b j m))
+doneAt id b (judge k m) = 0
 
 -- the counters of the secret's accepted messages, in the run's order
-abbrev pub acceptedIn : ℕ → Book → List Step → List ℕ
+abbrev pub acceptedIn : ℕ → State → List Step → List ℕ
 acceptedIn id b [] = []
-acceptedIn id b (s ∷ ss) = acceptedAt id b s ++ acceptedIn id (bookAfter b s) ss
+acceptedIn id b (s ∷ ss) = acceptedAt id (b .book) s ++ acceptedIn id (stateAfter b s) ss
 
 -- the number of seals done under the secret
-abbrev pub sealsIn : ℕ → Book → List Step → ℕ
+abbrev pub sealsIn : ℕ → State → List Step → ℕ
 sealsIn id b [] = 0
-sealsIn id b (s ∷ ss) = doneAt id b s + sealsIn id (bookAfter b s) ss
+sealsIn id b (s ∷ ss) = doneAt id (b .book) s + sealsIn id (stateAfter b s) ss
 
 -- ---- what is said of it
 
@@ -85,31 +88,32 @@ pub record OnlyOthersDiffer (id : ℕ) (a b : Book) : Type 0 where
   pub received : (k : ℕ) → rowOf a id ≡ some k → getD (a .received) k 0 ≡ getD (b .received) k 0
   pub sent : (k : ℕ) → rowOf a id ≡ some k → getD (a .sent) k 0 ≡ getD (b .sent) k 0
 
--- the secret gets the same answers and bytes in both, step by step, and its mark and counters end the same
-pub record SameFor (id : ℕ) (a b : Book) (run : List Step) : Type 0 where
+-- the secret gets the same answers and bytes in both, step by step, and its mark and counters end the same; nothing is asked of the server rows
+pub record SameFor (id : ℕ) (a b : State) (run : List Step) : Type 0 where
   pub same-answers : (i : ℕ) (s : Step) → getElem? run i ≡ some s → Concerns id s → getElem? (answers a run) i ≡ getElem? (answers b run) i
-  pub same-mark : (k : ℕ) → rowOf a id ≡ some k → getD (ending a run .marks) k 0 ≡ getD (ending b run .marks) k 0
-  pub same-received : (k : ℕ) → rowOf a id ≡ some k → getD (ending a run .received) k 0 ≡ getD (ending b run .received) k 0
-  pub same-sent : (k : ℕ) → rowOf a id ≡ some k → getD (ending a run .sent) k 0 ≡ getD (ending b run .sent) k 0
+  pub same-mark : (k : ℕ) → rowOf (a .book) id ≡ some k → getD (ending a run .book .marks) k 0 ≡ getD (ending b run .book .marks) k 0
+  pub same-received : (k : ℕ) → rowOf (a .book) id ≡ some k → getD (ending a run .book .received) k 0 ≡ getD (ending b run .book .received) k 0
+  pub same-sent : (k : ℕ) → rowOf (a .book) id ≡ some k → getD (ending a run .book .sent) k 0 ≡ getD (ending b run .book .sent) k 0
 
--- ---- for each secret of a sound book, its row being k, and any run
+-- ---- for each secret of a sound book, its row being k, any server rows, and any run
 
 pub record History : Type 0 where
   -- the counters of its accepted messages rise strictly, the first above the starting one where the row was heard at the start
-  pub accepted-rise : (b : Book) → Sound b → (id k : ℕ) → rowOf b id ≡ some k → (run : List Step)
-      → RisesNew (heardAt b k) (getD (b .received) k 0) (acceptedIn id b run)
+  pub accepted-rise : (b : State) → Sound (b .book) → (id k : ℕ) → rowOf (b .book) id ≡ some k → (run : List Step)
+      → RisesNew (heardAt (b .book) k) (getD (b .book .received) k 0) (acceptedIn id b run)
   -- the stored received counter is the starting one where none was accepted, else the greatest of them
-  pub received-stays : (b : Book) → Sound b → (id k : ℕ) → rowOf b id ≡ some k → (run : List Step)
-      → acceptedIn id b run ≡ [] → getD (ending b run .received) k 0 ≡ getD (b .received) k 0
-  pub received-greatest : (b : Book) → Sound b → (id k : ℕ) → rowOf b id ≡ some k → (run : List Step)
-      → acceptedIn id b run ≢ [] → Greatest (getD (ending b run .received) k 0) (acceptedIn id b run)
+  pub received-stays : (b : State) → Sound (b .book) → (id k : ℕ) → rowOf (b .book) id ≡ some k → (run : List Step)
+      → acceptedIn id b run ≡ [] → getD (ending b run .book .received) k 0 ≡ getD (b .book .received) k 0
+  pub received-greatest : (b : State) → Sound (b .book) → (id k : ℕ) → rowOf (b .book) id ≡ some k → (run : List Step)
+      → acceptedIn id b run ≢ [] → Greatest (getD (ending b run .book .received) k 0) (acceptedIn id b run)
   -- the row is heard where one was accepted, else its mark is the starting one
-  pub mark-stays : (b : Book) → Sound b → (id k : ℕ) → rowOf b id ≡ some k → (run : List Step)
-      → acceptedIn id b run ≡ [] → getD (ending b run .marks) k 0 ≡ getD (b .marks) k 0
-  pub mark-heard : (b : Book) → Sound b → (id k : ℕ) → rowOf b id ≡ some k → (run : List Step)
-      → acceptedIn id b run ≢ [] → getD (ending b run .marks) k 0 ≡ heard
+  pub mark-stays : (b : State) → Sound (b .book) → (id k : ℕ) → rowOf (b .book) id ≡ some k → (run : List Step)
+      → acceptedIn id b run ≡ [] → getD (ending b run .book .marks) k 0 ≡ getD (b .book .marks) k 0
+  pub mark-heard : (b : State) → Sound (b .book) → (id k : ℕ) → rowOf (b .book) id ≡ some k → (run : List Step)
+      → acceptedIn id b run ≢ [] → getD (ending b run .book .marks) k 0 ≡ heard
   -- the sent counter is the starting one plus the number of seals done
-  pub sent-counts : (b : Book) → Sound b → (id k : ℕ) → rowOf b id ≡ some k → (run : List Step)
-      → getD (ending b run .sent) k 0 ≡ getD (b .sent) k 0 + sealsIn id b run
-  -- what differs in other secrets is not seen
-  pub others-unseen : (a b : Book) → Sound a → Sound b → (id : ℕ) → OnlyOthersDiffer id a b → (run : List Step) → SameFor id a b run
+  pub sent-counts : (b : State) → Sound (b .book) → (id k : ℕ) → rowOf (b .book) id ≡ some k → (run : List Step)
+      → getD (ending b run .book .sent) k 0 ≡ getD (b .book .sent) k 0 + sealsIn id b run
+  -- what differs in other secrets is not seen, nor are the server rows, which may be any in both
+  pub others-unseen : (a b : State) → Sound (a .book) → Sound (b .book) → (id : ℕ) → OnlyOthersDiffer id (a .book) (b .book) → (run : List Step)
+      → SameFor id a b run

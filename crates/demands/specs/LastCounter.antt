@@ -7,14 +7,14 @@ use mathlib.Core.List.{List}
 use mathlib.Core.Option.{some}
 use lib.ListN.{getElem?}
 use Rattle.octets.specs.Bytes.{Bytes}
-use Rattle.key_book.specs.Book.{Book, Sound}
+use Rattle.key_book.specs.Book.{Sound}
 use Rattle.delayed_auth.specs.declared.Verdict.the-variants.{Accepted}
 use Rattle.delayed_auth.specs.Seal.{counterMost}
-use Rattle.demands.specs.Demand3.{Step, check, checked, answers}
+use Rattle.demands.specs.Demand3.{Step, check, State, checked, answers}
 
 abbrev pub LastCounter : Type 0
 LastCounter =
-    (b : Book) → Sound b → (run : List Step) (i j : ℕ) (m n : List ℕ) (k c : ℕ) → i < j
+    (b : State) → Sound (b .book) → (run : List Step) (i j : ℕ) (m n : List ℕ) (k c : ℕ) → i < j
     → getElem? run i ≡ some (check m) → getElem? (answers b run) i ≡ some (checked (Accepted k counterMost))
     → getElem? run j ≡ some (check n) → Bytes n
     → getElem? (answers b run) j ≢ some (checked (Accepted k c))

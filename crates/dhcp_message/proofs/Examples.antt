@@ -12,6 +12,8 @@ use Rattle.dhcp_message.specs.Message.{checkedTokens, checkedOf, Passes2
 use Rattle.dhcp_message.specs.Said.{saidBy, saidOf, formOf}
 use Rattle.dhcp_message.specs.Image.{headWith, imageOf, coverFits, imageAt, coverBytes, coverSize, coverLeft}
 use Rattle.dhcp_message.specs.Scan.{seenOf, scanOf}
+use Rattle.dhcp_message.specs.Shape.{shapeOf}
+use Rattle.dhcp_message.specs.Types.{messageTypeOf}
 use Rattle.dhcp_message.specs.Relay.{RelayChange, added, replaced, removed, Permitted}
 use Rattle.dhcp_message.specs.Seal.{fieldsPut, macPut}
 use Rattle.dhcp_message.proofs.Relays.{relay-may}
@@ -61,11 +63,17 @@ options-read : Reads (drop 240 distinct) options (82 ∷ 0 ∷ [])
 options-read = ((omega arith, omega arith, omega arith, (omega arith, omega arith, omega arith, (omega arith, omega arith, omega arith, tt))), refl)
 
 pub layout-pinned : LayoutPinned
-unfolding saidOf formOf checkedOf checkedTokens decodeAt scanOf seenOf saidBy imageOf coverFits imageAt coverBytes coverSize coverLeft written
-    fieldsPut macPut be bigAt
+unfolding saidOf formOf shapeOf messageTypeOf checkedOf checkedTokens decodeAt scanOf seenOf saidBy imageOf coverFits imageAt coverBytes coverSize
+    coverLeft written fieldsPut macPut be bigAt
 layout-pinned = record {
   form = refl;
   scanned = refl;
+  shape = refl;
+  type-stated = refl;
+  type-twice = refl;
+  type-longer = refl;
+  type-empty = refl;
+  type-missing = refl;
   said = refl;
   image = refl;
   covers-before = refl;

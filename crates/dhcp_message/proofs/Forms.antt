@@ -16,13 +16,13 @@ use Rattle.octets.specs.Bytes.{starts}
 use Rattle.octets.specs.Numbers.{bigAt}
 use Rattle.dhcp_message.specs.Options.{Token}
 use Rattle.dhcp_message.specs.Message.{optionOf, offsetOf, Checked, stopped, passed, checkedOf}
-use Rattle.dhcp_message.specs.Said.{Said, says, saidFor, fullSaid, saidBy, placesOf, authOf, formSaid, formIn, formOf}
-use Rattle.dhcp_message.specs.Scan.{shapeIn, shapeOf}
-use Rattle.dhcp_message.specs.declared.scan.Places.{Places}
+use Rattle.dhcp_message.specs.Said.{Said, says, saidFor, fullSaid, saidBy, authOf, formSaid, formIn, formOf}
+use Rattle.dhcp_message.specs.Shape.{placesOf, shapeIn, shapeOf}
+use Rattle.dhcp_message.specs.declared.Places.{Places}
 use Rattle.dhcp_message.specs.declared.Auth.{Auth}
 use Rattle.dhcp_message.specs.declared.Form.{Form}
 use Rattle.dhcp_message.specs.declared.Form.the-variants.{Refused, Full}
-use Rattle.dhcp_message.specs.declared.scan.Shape.the-variants.{Refused as SRefused, Passed as SPassed}
+use Rattle.dhcp_message.specs.declared.Shape.the-variants.{Refused as SRefused, Passed as SPassed}
 use Rattle.octets.proofs.Starts.{starts-append}
 use Rattle.octets.proofs.HighFirst.{big-from, big-append}
 use Rattle.dhcp_message.proofs.Passing.{Passing, passing, shape-in, form-in, form-passed, from-option, inside, split-90, option-length}
@@ -161,6 +161,10 @@ module _ (m : List ℕ) where
   form-fits p e =
       let q = placed p e in
       subst (λ (p : Places). p .at + 2 + getD m (p .at + 1) 0 ≤ length m) (q .places) (whole-in-place (q .passes))
+
+  -- and such a message is not too long
+  pub form-short : (p : Places) → SPassed p ≡ shapeOf m → length m ≤ 1472
+  form-short p e = placed p e .passes .short
 
   pub form-where-passed : (p : Places) (f : Form) → SPassed p ≡ shapeOf m → f ≡ formSaid p (saidBy (drop (p .at) m)) → f ≡ formOf m
   form-where-passed p f e h =

@@ -12,7 +12,8 @@ use Rattle.octets.proofs.HighFirst.{big-from, big-append}
 use Rattle.dhcp_message.specs.Layout.{delayed}
 use Rattle.dhcp_message.specs.Options.{Token, encode}
 use Rattle.dhcp_message.specs.Message.{optionOf, offsetOf, Checked, stopped, passed, checkedOf}
-use Rattle.dhcp_message.specs.Said.{says, saidOf, placesOf, authOf, formSaid, formIn, formOf}
+use Rattle.dhcp_message.specs.Shape.{placesOf}
+use Rattle.dhcp_message.specs.Said.{says, saidOf, authOf, formSaid, formIn, formOf}
 use Rattle.dhcp_message.specs.declared.Auth.{Auth}
 use Rattle.dhcp_message.specs.declared.Form.the-variants.{Full}
 use Rattle.dhcp_message.proofs.Tokens.{Split}

@@ -15,4 +15,5 @@ pub mod Replays
 mod Changes
 pub mod Relays
 pub mod Lowest
+pub mod Typing
 pub mod Examples

@@ -1,8 +1,9 @@
 -- A byte string is refused with the lowest number that applies: each check that passes rules its number out, and each that fails shows that
 -- it applies. What the options read as is one thing, since reading undoes writing.
 use mathlib.Core.Path.{_≡_, refl, sym, ap, _∙_, subst}
-use mathlib.Core.Logic.{_⊎_, inl, inr, ⊎-elim}
-use Prim.Native.Nat.{ℕ, _≤_, _<_}
+use mathlib.Core.Logic.{_⊎_, _↔_, inl, inr, ⊎-elim}
+use Prim.Native.Nat.{ℕ, _+_, _≤_, _<_}
+use native.Mathlib.Decide.{ℕ-discrete, decLt}
 use native.Mathlib.Omega.{arith}
 use mathlib.Core.Bool.{Bool, true, false, cond}
 use mathlib.Core.List.{List}
@@ -19,19 +20,22 @@ use Rattle.refusal.specs.declared.Refusal.the-variants.{MessageSize, WrongCooki
 use Rattle.refusal.specs.declared.Refusal.the-variants.{RelayInformation, OtherAuthentication, RequestForm}
 use Rattle.dhcp_message.specs.Layout.{magicCookie, delayed}
 use Rattle.octets.specs.Bytes.{Bytes, starts}
-use Rattle.dhcp_message.specs.Options.{Token, Parsed, broken, parsed, decode, Reads}
-use Rattle.dhcp_message.specs.Message.{count, optionOf, Checked, stopped, passed, checkedTokens, checkedParsed, checkedOf, Passed}
-use Rattle.dhcp_message.specs.Said.{refused, says, saidFor, saidBy, placesOf, formSaid, formIn, formOf, formNumber}
-use Rattle.dhcp_message.specs.Numbers.{WhereRead, Has, OtherForm, LowestGiven, Applies, wrong-size}
+use Rattle.dhcp_message.specs.Options.{Token, Parsed, broken, parsed, encode, decode, Reads}
+use Rattle.dhcp_message.specs.Message.{count, optionOf, tokensBefore, offsetOf, Checked, stopped, passed, checkedTokens, checkedParsed, checkedOf, Passed}
+use Rattle.dhcp_message.specs.Shape.{placesOf, shapeIn, shapeOf}
+use Rattle.dhcp_message.specs.Said.{refused, says, saidFor, saidBy, formSaid, formIn, formOf, formNumber}
+use Rattle.dhcp_message.specs.Numbers.{WhereRead, Has, OtherForm, LowestGiven, StandsAt, RelayAt, relay-there, no-relay, ShapeGiven, Applies, wrong-size}
 use Rattle.dhcp_message.specs.Numbers.{wrong-cookie, broken-options, no-authentication, repeated-authentication, repeated-relay-information}
 use Rattle.dhcp_message.specs.Numbers.{other-form, request-form}
 use Rattle.dhcp_message.specs.declared.Auth.{Auth}
 use Rattle.dhcp_message.specs.declared.Form.{Form}
 use Rattle.dhcp_message.specs.declared.Form.the-variants.{Refused, Full}
+use Rattle.dhcp_message.specs.declared.Places.{Places}
+use Rattle.dhcp_message.specs.declared.Shape.the-variants.{Refused as SRefused, Passed as SPassed}
 use Rattle.octets.proofs.Starts.{starts-true, starts-not}
 use Rattle.octets.proofs.Elements.{bytes-drop}
 use Rattle.dhcp_message.proofs.Decoding.{decode-reads, reads-decode}
-use Rattle.dhcp_message.proofs.Tokens.{Split, count-split, option-there, option-at}
+use Rattle.dhcp_message.proofs.Tokens.{once, Split, split, count-split, option-there, option-none, option-at, before-none, before-at}
 use Rattle.dhcp_message.proofs.Passing.{Passing, passing, split-90}
 
 -- ---- which numbers the message alone decides
@@ -62,10 +66,10 @@ module _ (m : List ℕ) (bytes : Bytes m) (ts : List Token) (rest : List ℕ) (e
   reads : Reads (drop 240 m) ts rest
   reads = decode-reads (drop 240 m) ts rest (bytes-drop 240 m bytes) e
 
-  readable : {P : List Token → Type 0} → P ts → WhereRead P m
+  pub readable : {P : List Token → Type 0} → P ts → WhereRead P m
   readable h = record { tokens = ts; rest = rest; reads = reads; holds = h }
 
-  read-as : {P : List Token → Type 0} → WhereRead P m → P ts
+  pub read-as : {P : List Token → Type 0} → WhereRead P m → P ts
   read-as {P} r =
       let f = sym (reads-decode (drop 240 m) (r .tokens) (r .rest) (r .reads)) ∙ e in
       let t : r .tokens ≡ ts = cc in
@@ -225,4 +229,84 @@ lowest-given = record {
   refused = λ m b r. let w = number-lowest m b .refused r in (λ e. w .0 (ap formNumber e), λ h. number-named r (formOf m) (w .1 h));
   full = λ m b. let w = number-lowest m b .none-applies in (λ h. w .0 (ap formNumber (h .1)), λ n. number-full (formOf m) (w .1 n));
   passes = λ m b. passes-where-none m (checkedOf m) (given m b);
+}
+
+-- ---- 2 to 7 alone
+
+module _ (m : List ℕ) where
+  -- two refusals that are each the lowest are one
+  one-lowest : (q r : Refusal) → Applies m q → Below m (numberOf q) → Applies m r → Below m (numberOf r) → q ≡ r
+  one-lowest q r a h b k =
+      elim (decLt (numberOf q) (numberOf r)) [
+        | yes l ↦ absurd (k q l a)
+        | no l ↦ elim (decLt (numberOf r) (numberOf q)) [
+          | yes g ↦ absurd (h r g b)
+          | no g ↦ numbers-tell .apart q r (omega arith)
+        ]
+      ]
+
+  shape-stopped : (r : Refusal) (c : Checked) → Given m c
+      → (shapeIn c ≡ SRefused r) ↔ (Applies m r × Below m (numberOf r) × (numberOf r < 8))
+  shape-stopped r (stopped q) g = (
+    λ e. let z : q ≡ r = cc in subst (λ (x : Refusal). Applies m x × Below m (numberOf x) × (numberOf x < 8)) z g,
+    λ h. ap SRefused (one-lowest q r (g .0) (g .1) (h .0) (h .1)),
+  )
+  shape-stopped r (passed ts rest) g = (λ e. let z : _≡_ {A = ℕ} 0 1 = cc in absurd (omega arith), λ h. absurd (g r (h .2) (h .0)))
+
+  shape-passed : (c : Checked) → Given m c → ((p : Places) × (shapeIn c ≡ SPassed p)) ↔ Below m 8
+  shape-passed (stopped r) g = (λ h. let e = h .1 in let z : _≡_ {A = ℕ} 0 1 = cc in absurd (omega arith), λ n. absurd (n r (g .2) (g .0)))
+  shape-passed (passed ts rest) g = (λ h. g, λ n. (placesOf ts, refl))
+
+  shape-stands : Bytes m → (p : Places) (c : Checked) → checkedOf m ≡ c → shapeIn c ≡ SPassed p
+      → WhereRead (λ ts. (count 90 ts ≡ 1) × StandsAt 90 (p .at) ts) m
+  shape-stands b p (stopped r) e f = let z : _≡_ {A = ℕ} 0 1 = cc in absurd (omega arith)
+  shape-stands b p (passed ts rest) e f =
+      let w = passing m ts rest e in
+      let s = split-90 w in
+      let at : p .at ≡ 240 + length (encode (tokensBefore 90 ts)) = let z : placesOf ts ≡ p = cc in ap (λ (x : Places). x .at) (sym z) in
+      readable m b ts rest (w .reads) (
+        w .one-90,
+        record {
+          front = s .front;
+          body = s .body;
+          back = s .back;
+          splits = s .tokens;
+          offset = at ∙ ap (λ (us : List Token). 240 + length (encode us)) (before-at s);
+        },
+      )
+
+  relay-stands : Bytes m → (p : Places) (c : Checked) → checkedOf m ≡ c → shapeIn c ≡ SPassed p → WhereRead (RelayAt (p .cut) (p .gap)) m
+  relay-stands b p (stopped r) e f = let z : _≡_ {A = ℕ} 0 1 = cc in absurd (omega arith)
+  relay-stands b p (passed ts rest) e f =
+      let w = passing m ts rest e in
+      let z : placesOf ts ≡ p = cc in
+      readable m b ts rest (w .reads)
+      (subst (λ (x : Places). RelayAt (x .cut) (x .gap) ts) z
+      (elim (ℕ-discrete (count 82 ts) 0) [ yes n ↦ none-there n | no n ↦ one-there (once (count 82 ts) n (w .most-82)) ]))
+    where
+      none-there : count 82 ts ≡ 0 → RelayAt (offsetOf 82 ts) (length (optionOf 82 ts)) ts
+      none-there n =
+          no-relay n (ap (λ (us : List Token). 240 + length (encode us)) (before-none 82 ts n)) (ap length (option-none 82 ts n))
+
+      one-there : count 82 ts ≡ 1 → RelayAt (offsetOf 82 ts) (length (optionOf 82 ts)) ts
+      one-there n =
+          let s = split 82 ts (omega arith) in
+          let size = ap length (option-at s) in
+          relay-there n
+          (record {
+            front = s .front;
+            body = s .body;
+            back = s .back;
+            splits = s .tokens;
+            offset = ap (λ (us : List Token). 240 + length (encode us)) (before-at s);
+          })
+          (omega arith)
+
+pub shape-given : ShapeGiven
+unfolding shapeOf
+shape-given = record {
+  refused = λ m b r. shape-stopped m r (checkedOf m) (given m b);
+  passed = λ m b. shape-passed m (checkedOf m) (given m b);
+  stands = λ m b p e. shape-stands m b p (checkedOf m) refl e;
+  relay = λ m b p e. relay-stands m b p (checkedOf m) refl e;
 }

@@ -15,9 +15,9 @@ use Rattle.octets.specs.Bytes.{starts}
 use Rattle.dhcp_message.specs.Options.{Token, Parsed, broken, parsed, encode, decode}
 use Rattle.dhcp_message.specs.Message.{count, optionOf, offsetOf}
 use Rattle.dhcp_message.specs.Message.{Checked, stopped, passed, checkedTokens, checkedParsed, checkedOf, Passed, Passes27, authIn, authOptionOf}
-use Rattle.dhcp_message.specs.Said.{saidBy, saidIn, saidOf, idOf, named, placesOf, formSaid, formIn, formOf}
+use Rattle.dhcp_message.specs.Said.{saidBy, saidIn, saidOf, idOf, named, formSaid, formIn, formOf}
 use Rattle.dhcp_message.specs.Image.{without, macZero, headZero, imageIn, imageOf}
-use Rattle.dhcp_message.specs.Scan.{shapeIn, shapeOf}
+use Rattle.dhcp_message.specs.Shape.{placesOf, shapeIn, shapeOf}
 use Rattle.octets.proofs.Starts.{starts-append}
 use Rattle.dhcp_message.proofs.Decoding.{Codes, decode-encode, encode-decode}
 use Rattle.dhcp_message.proofs.Tokens.{once, Split, split, encode-append, option-at, before-at}

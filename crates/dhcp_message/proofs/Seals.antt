@@ -15,10 +15,11 @@ use Rattle.dhcp_message.specs.Layout.{delayed}
 use Rattle.dhcp_message.specs.Options.{Token, opt, encode}
 use Rattle.dhcp_message.specs.Message.{count, optionOf, offsetOf, Checked, stopped, passed, checkedOf}
 use Rattle.dhcp_message.specs.Said.{Said, refused, says, saidBy, saidIn, saidOf, idOf, named}
-use Rattle.dhcp_message.specs.Said.{placesOf, authOf, formSaid, formIn, formOf, formSays, formNames, FormSays}
+use Rattle.dhcp_message.specs.Shape.{placesOf}
+use Rattle.dhcp_message.specs.Said.{authOf, formSaid, formIn, formOf, formSays, formNames, FormSays}
 use Rattle.dhcp_message.specs.Image.{without, macZero, headZero, imageOf}
 use Rattle.dhcp_message.specs.Seal.{fields, sealedWith, withFields, FullForm, Rewritten, SealLaws}
-use Rattle.dhcp_message.specs.declared.scan.Places.{Places}
+use Rattle.dhcp_message.specs.declared.Places.{Places}
 use Rattle.dhcp_message.specs.declared.Auth.{Auth}
 use Rattle.dhcp_message.specs.declared.Form.{Form}
 use Rattle.dhcp_message.specs.declared.Form.the-variants.{Refused, Full}

@@ -15,15 +15,15 @@ use Rattle.octets.specs.Bytes.{starts}
 use Rattle.dhcp_message.specs.Layout.{magicCookie}
 use Rattle.dhcp_message.specs.Options.{Token, Parsed, broken, parsed, encode, decode}
 use Rattle.dhcp_message.specs.Message.{count, checkedTokens, checkedParsed}
-use Rattle.dhcp_message.specs.Said.{placesOf}
 use Rattle.dhcp_message.specs.Scan.{scanParsed, emptyTally, scanOf}
-use Rattle.dhcp_message.specs.Scan.{shapeFound, shapeIn, shapeOf}
+use Rattle.dhcp_message.specs.Scan.{shapeFound}
+use Rattle.dhcp_message.specs.Shape.{placesOf, shapeIn, shapeOf}
 use Rattle.dhcp_message.specs.declared.scan.Tally.{Tally}
 use Rattle.dhcp_message.specs.declared.scan.Scan.{Scan}
 use Rattle.dhcp_message.specs.declared.scan.Scan.the-variants.{Broken as SBroken, Whole as SWhole}
-use Rattle.dhcp_message.specs.declared.scan.Places.{Places}
-use Rattle.dhcp_message.specs.declared.scan.Shape.{Shape}
-use Rattle.dhcp_message.specs.declared.scan.Shape.the-variants.{Refused as SRefused, Passed as SPassed}
+use Rattle.dhcp_message.specs.declared.Places.{Places}
+use Rattle.dhcp_message.specs.declared.Shape.{Shape}
+use Rattle.dhcp_message.specs.declared.Shape.the-variants.{Refused as SRefused, Passed as SPassed}
 use Rattle.dhcp_message.proofs.Tokens.{once, option-none, before-none}
 use Rattle.dhcp_message.proofs.Turns.{head-start}
 use Rattle.dhcp_message.proofs.Found.{place, size, resume, scan-is, place-once, size-once}

@@ -15,7 +15,6 @@ use Rattle.dhcp_message.specs.Scan.{leadOf, hereOf, hereAt, seen90, seen
 use Rattle.dhcp_message.specs.declared.scan.Here.{Here}
 use Rattle.dhcp_message.specs.declared.scan.Here.the-variants.{Broken as HBroken, End as HEnd, Pad as HPad, Opt as HOpt}
 use Rattle.dhcp_message.specs.declared.scan.Tally.{Tally}
-use Rattle.dhcp_message.specs.declared.scan.Scan.{Scan}
 use Rattle.dhcp_message.specs.declared.scan.Scan.the-variants.{Broken as SBroken, Whole as SWhole}
 use Rattle.dhcp_message.proofs.Decoding.{decode-cons, decode-nil}
 
@@ -57,52 +56,42 @@ module _ (s : List ℕ) (at : ℕ) where
       let l₁ : getD s (suc at) 0 ≤ length (drop (suc (suc at)) s) = simp length-drop (omega arith) in
       rw (drop-cons s at 0 h₀, ne-eqb _ _ z, ne-eqb _ _ e, drop-cons s (suc at) 0 h₁, le-leb _ _ l₁, length-take-le _ _ l₁, add-one)
 
--- ---- a scan goes on by what stands in front
+-- ---- reading goes on by what stands in front
 
 -- `from k` are the bytes behind the next k
-abbrev onHere : (ℕ → List ℕ) → Tally → ℕ → Here → Scan
-onHere from f at HBroken = SBroken
-onHere from f at HEnd = SWhole f at
-onHere from f at HPad = scanParsed f (at + 1) (decode (from 1))
-onHere from f at (HOpt c n) = scanParsed (seenOf f c at n) (at + n) (decode (from n))
+abbrev pub readOn : (ℕ → List ℕ) → Here → Parsed
+readOn from HBroken = broken
+readOn from HEnd = parsed [] (from 1)
+readOn from HPad = withToken pad (decode (from 1))
+readOn from (HOpt c n) = withToken (opt c (take (n - 2) (from 2))) (decode (from n))
 
-module _ (f : Tally) (at : ℕ) where
-  scan-pad : (p : Parsed) → scanParsed f at (withToken pad p) ≡ scanParsed f (at + 1) p
-  scan-pad broken = refl
-  scan-pad (parsed ts r) = refl
+module _ (c : ℕ) where
+  on-body : (n : ℕ) (ys : List ℕ) (t : Bool) → leb n (length ys) ≡ t
+      → step (λ k. decode (drop k (n ∷ ys))) (n ∷ ys) (body c ys n t) ≡ readOn (λ k. drop k (c ∷ n ∷ ys)) (hereOf (body c ys n t))
+  on-body n ys false l = refl
+  on-body n ys true l =
+      let k = length-take-le n ys (leb-true _ _ l) in
+      let taken : n ≡ 2 + length (take n ys) - 2 = omega arith in
+      let behind : suc (suc n) ≡ 2 + length (take n ys) = omega arith in
+      ap₂ (λ (i j : ℕ). withToken (opt c (take i ys)) (decode (drop j (c ∷ n ∷ ys)))) taken behind
 
-  scan-opt : (c : ℕ) (b : List ℕ) (p : Parsed)
-      → scanParsed f at (withToken (opt c b) p) ≡ scanParsed (seenOf f c at (2 + length b)) (at + (2 + length b)) p
-  scan-opt c b broken = refl
-  scan-opt c b (parsed ts r) = refl
+  on-option : (xs : List ℕ) → step (λ k. decode (drop k xs)) xs (option c xs) ≡ readOn (λ k. drop k (c ∷ xs)) (hereOf (option c xs))
+  on-option [] = refl
+  on-option (n ∷ ys) = on-body n ys (leb n (length ys)) refl
 
-  module _ (c : ℕ) where
-    on-body : (n : ℕ) (ys : List ℕ) (t : Bool) → leb n (length ys) ≡ t
-        → scanParsed f at (step (λ k. decode (drop k (n ∷ ys))) (n ∷ ys) (body c ys n t)) ≡ onHere (λ k. drop k (c ∷ n ∷ ys)) f at (hereOf (body c ys n t))
-    on-body n ys false l = refl
-    on-body n ys true l =
-        let e : 2 + n ≡ suc (suc n) = omega arith in
-        scan-opt c (take n ys) (decode (drop n ys)) ∙ rw (length-take-le n ys (leb-true _ _ l), e)
+  on-code : (xs : List ℕ) (z e : Bool) → step (λ k. decode (drop k xs)) xs (code c xs z e) ≡ readOn (λ k. drop k (c ∷ xs)) (hereOf (code c xs z e))
+  on-code xs true e = refl
+  on-code xs false true = refl
+  on-code xs false false = on-option xs
 
-    on-option : (xs : List ℕ)
-        → scanParsed f at (step (λ k. decode (drop k xs)) xs (option c xs)) ≡ onHere (λ k. drop k (c ∷ xs)) f at (hereOf (option c xs))
-    on-option [] = refl
-    on-option (n ∷ ys) = on-body n ys (leb n (length ys)) refl
+on-lead : (xs : List ℕ) → decode xs ≡ readOn (λ k. drop k xs) (hereOf (leadOf xs))
+on-lead [] = decode-nil
+on-lead (c ∷ xs) = decode-cons c xs ∙ on-code c xs (eqb c 0) (eqb c 255)
 
-    on-code : (xs : List ℕ) (z e : Bool)
-        → scanParsed f at (step (λ k. decode (drop k xs)) xs (code c xs z e)) ≡ onHere (λ k. drop k (c ∷ xs)) f at (hereOf (code c xs z e))
-    on-code xs true e = scan-pad (decode xs)
-    on-code xs false true = refl
-    on-code xs false false = on-option xs
-
-  on-lead : (xs : List ℕ) → scanParsed f at (decode xs) ≡ onHere (λ k. drop k xs) f at (hereOf (leadOf xs))
-  on-lead [] = rw decode-nil
-  on-lead (c ∷ xs) = ap (scanParsed f at) (decode-cons c xs) ∙ on-code c xs (eqb c 0) (eqb c 255)
-
-on-here : (m : List ℕ) (f : Tally) (at : ℕ) (h : Here) → h ≡ hereAt m at → scanParsed f at (decode (drop at m)) ≡ onHere (λ n. drop (at + n) m) f at h
+pub on-here : (m : List ℕ) (at : ℕ) (h : Here) → h ≡ hereAt m at → decode (drop at m) ≡ readOn (λ n. drop (at + n) m) h
 unfolding hereAt
-on-here m f at h e =
-    on-lead f at (drop at m) ∙ ap₂ (λ (from : ℕ → List ℕ) (h : Here). onHere from f at h) (fun-ext (λ n. drop-drop n at m)) (sym e)
+on-here m at h e =
+    on-lead (drop at m) ∙ ap₂ (λ (from : ℕ → List ℕ) (h : Here). readOn from h) (fun-ext (λ n. drop-drop n at m)) (sym e)
 
 -- what stands in front is within the bytes
 abbrev Within : ℕ → Here → Type 0
@@ -140,6 +129,26 @@ opt-fits m at c n e =
     let a = w .0 in
     let b = w .1 in
     (a, omega arith)
+
+-- ---- a scan goes on by what stands in front
+
+module _ (f : Tally) (at : ℕ) where
+  scan-pad : (p : Parsed) → scanParsed f at (withToken pad p) ≡ scanParsed f (at + 1) p
+  scan-pad broken = refl
+  scan-pad (parsed ts r) = refl
+
+  scan-opt : (c : ℕ) (b : List ℕ) (n : ℕ) (p : Parsed) → 2 + length b ≡ n
+      → scanParsed f at (withToken (opt c b) p) ≡ scanParsed (seenOf f c at n) (at + n) p
+  scan-opt c b n broken e = refl
+  scan-opt c b n (parsed ts r) e = ap (λ (k : ℕ). scanParsed (seenOf f c at k) (at + k) (parsed ts r)) e
+
+-- a body has the bytes that its option takes less two
+pub body-size : (m : List ℕ) (at c n : ℕ) → HOpt c n ≡ hereAt m at → 2 + length (take (n - 2) (drop (at + 2) m)) ≡ n
+body-size m at c n e =
+    let l = opt-fits m at c n e in
+    let k = length-drop (at + 2) m in
+    let t = length-take-le (n - 2) (drop (at + 2) m) (omega arith) in
+    omega arith
 
 -- ---- one option more
 
@@ -180,16 +189,19 @@ head-start m = (refl, omega arith)
 
 module _ (m : List ℕ) (f : Tally) (at : ℕ) (h : Head m f at) where
   pub turn-broken : HBroken ≡ hereAt m at → SBroken ≡ scanOf m
-  turn-broken e = sym (on-here m f at HBroken e) ∙ h .0
+  turn-broken e = sym (ap (scanParsed f at) (on-here m at HBroken e)) ∙ h .0
 
   pub turn-end : HEnd ≡ hereAt m at → SWhole f at ≡ scanOf m
-  turn-end e = sym (on-here m f at HEnd e) ∙ h .0
+  turn-end e = sym (ap (scanParsed f at) (on-here m at HEnd e)) ∙ h .0
 
   pub turn-pad : HPad ≡ hereAt m at → Head m f (at + 1)
-  turn-pad e = let l = pad-fits m at e in (sym (on-here m f at HPad e) ∙ h .0, omega arith)
+  turn-pad e =
+      let l = pad-fits m at e in
+      (sym (ap (scanParsed f at) (on-here m at HPad e) ∙ scan-pad f at (decode (drop (at + 1) m))) ∙ h .0, omega arith)
 
   pub turn-opt : (g : Tally) (c n : ℕ) → HOpt c n ≡ hereAt m at → g ≡ seenOf f c at n → Head m g (at + n)
   turn-opt g c n e eg =
       let l = opt-fits m at c n e in
       let s = seen-most f c at n in
-      rw eg (sym (on-here m f at (HOpt c n) e) ∙ h .0, (omega arith, (omega arith, omega arith)))
+      let p = scan-opt f at c (take (n - 2) (drop (at + 2) m)) n (decode (drop (at + n) m)) (body-size m at c n e) in
+      rw eg (sym (ap (scanParsed f at) (on-here m at (HOpt c n) e) ∙ p) ∙ h .0, (omega arith, (omega arith, omega arith)))

@@ -9,11 +9,15 @@ use Rattle.dhcp_message.specs.Layout.{cookieAt, magicCookie}
 use Rattle.dhcp_message.specs.Said.{says, saidOf, formOf, formNumber}
 use Rattle.dhcp_message.specs.Image.{imageOf, coverSize, coverLeft}
 use Rattle.dhcp_message.specs.Scan.{scanOf}
+use Rattle.dhcp_message.specs.Shape.{shapeOf}
+use Rattle.dhcp_message.specs.Types.{messageTypeOf}
 use Rattle.dhcp_message.specs.Relay.{RelayBody, Permitted, Relayed}
 use Rattle.dhcp_message.specs.Seal.{fieldsPut, macPut, sealedWith}
 use Rattle.dhcp_message.specs.declared.Auth.{Auth}
 use Rattle.dhcp_message.specs.declared.Form.the-variants.{Full}
 use Rattle.dhcp_message.specs.declared.scan.Scan.the-variants.{Whole}
+use Rattle.dhcp_message.specs.declared.Shape.the-variants.{Passed}
+use Rattle.dhcp_message.specs.declared.MessageType.the-variants.{Stated, Unstated}
 
 abbrev pub messageOf : List ℕ → List ℕ
 messageOf options = zeros cookieAt ++ (magicCookie ++ options)
@@ -99,6 +103,14 @@ pub record LayoutPinned : Type 0 where
   pub covers-behind : coveredOf40 7 0 7 ≡ 33
   pub covers-out-of : coveredOf40 6 0 7 ≡ 0
   pub covers-past-the-end : coveredOf40 8 0 7 ≡ 0
+  -- what stands before: checks 2 to 7 alone
+  pub shape : shapeOf distinct ≡ Passed (record { at = 246; cut = 279; gap = 4 })
+  -- the message type: one option 53 of one byte states it, wherever it stands; two, or one of another size, state nothing
+  pub type-stated : messageTypeOf (distinctOf (12 ∷ 1 ∷ 53 ∷ 0 ∷ 53 ∷ 1 ∷ 9 ∷ 90 ∷ 0 ∷ 255 ∷ [])) ≡ Stated 9
+  pub type-twice : messageTypeOf (distinctOf (53 ∷ 1 ∷ 5 ∷ 53 ∷ 1 ∷ 5 ∷ 255 ∷ [])) ≡ Unstated
+  pub type-longer : messageTypeOf (distinctOf (53 ∷ 2 ∷ 5 ∷ 5 ∷ 255 ∷ [])) ≡ Unstated
+  pub type-empty : messageTypeOf (distinctOf (53 ∷ 0 ∷ 255 ∷ [])) ≡ Unstated
+  pub type-missing : messageTypeOf (distinctOf (12 ∷ 1 ∷ 53 ∷ 255 ∷ [])) ≡ Unstated
   -- what a seal writes, and where
   pub fields-put : fieldsPut (zeros 28) 0xc9ca_cbcc_cdce_cfd0 0xd1d2_d3d4 ≡ upFrom 201 12 ++ zeros 16
   pub mac-put : macPut (zeros 28) (upFrom 213 16) ≡ zeros 12 ++ upFrom 213 16

@@ -38,6 +38,9 @@ headerSize = 240
 abbrev pub padCode : ℕ
 padCode = 0
 
+abbrev pub typeCode : ℕ
+typeCode = 53
+
 abbrev pub relayCode : ℕ
 relayCode = 82
 

@@ -1,10 +1,12 @@
 pub mod Layout
 pub mod Options
 pub mod Message
+pub mod Shape
 pub mod Said
 pub mod Image
 pub mod Scan
 pub mod Numbers
+pub mod Types
 pub mod Relay
 pub mod Seal
 pub mod Replay

@@ -5,18 +5,18 @@ use mathlib.Core.Path.{_≡_}
 use mathlib.Core.Bool.{Bool, true, false, cond}
 use mathlib.Core.List.{List}
 use mathlib.Core.Option.{Option, none, some}
-use lib.ListN.{length, take, drop, getD}
+use lib.ListN.{take, drop, getD}
 use lib.Dec.{eqb}
 use Rattle.refusal.specs.Number.{numberOf, done}
 use Rattle.refusal.specs.declared.Refusal.{Refusal}
 use Rattle.refusal.specs.declared.Refusal.the-variants.{OtherAuthentication, RequestForm}
-use Rattle.dhcp_message.specs.Layout.{relayCode, authCode, lengthAt, methodAt, counterAt, counterSize, secretIdAt, secretIdSize}
+use Rattle.dhcp_message.specs.Layout.{authCode, lengthAt, methodAt, counterAt, counterSize, secretIdAt, secretIdSize}
 use Rattle.dhcp_message.specs.Layout.{macAt, macSize, fullLength, requestLength, delayed}
 use Rattle.octets.specs.Bytes.{starts}
 use Rattle.octets.specs.Numbers.{bigAt}
-use Rattle.dhcp_message.specs.Options.{Token}
-use Rattle.dhcp_message.specs.Message.{optionOf, offsetOf, Checked, stopped, passed, checkedOf}
-use Rattle.dhcp_message.specs.declared.scan.Places.{Places}
+use Rattle.dhcp_message.specs.Message.{optionOf, Checked, stopped, passed, checkedOf}
+use Rattle.dhcp_message.specs.Shape.{placesOf}
+use Rattle.dhcp_message.specs.declared.Places.{Places}
 use Rattle.dhcp_message.specs.declared.Auth.{Auth}
 use Rattle.dhcp_message.specs.declared.Form.{Form}
 use Rattle.dhcp_message.specs.declared.Form.the-variants.{Refused, Full}
@@ -54,10 +54,6 @@ idOf (says counter id mac) = some id
 
 unfoldable pub named : List ℕ → Option ℕ
 named m = idOf (saidOf m)
-
--- where option 90 stands, and the stretch that option 82 takes: nothing, right before End, where there is none
-abbrev pub placesOf : List Token → Places
-placesOf ts = record { at = offsetOf authCode ts; cut = offsetOf relayCode ts; gap = length (optionOf relayCode ts) }
 
 abbrev pub authOf : Places → ℕ → ℕ → Auth
 authOf p counter id = record { at = p .at; counter = counter; id = id; cut = p .cut; gap = p .gap }

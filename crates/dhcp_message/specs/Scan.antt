@@ -1,22 +1,24 @@
--- What the code's one pass over the options collects, for the contracts of its private functions. Nothing here needs to be believed:
--- the public contracts speak of the definitions in Message, Said and Image, and proofs/ shows that the two agree.
+-- What the code's passes over the options collect, for the contracts of its private functions. Nothing here needs to be believed:
+-- the public contracts speak of the definitions in Message, Shape, Said, Types and Image, and proofs/ shows that the two agree.
 use Prim.Native.Nat.{ℕ, _+_}
 use mathlib.Core.Bool.{cond}
 use mathlib.Core.List.{List, [], _∷_}
 use lib.ListN.{length, drop}
 use lib.Dec.{ltb, eqb}
 use Rattle.refusal.specs.declared.Refusal.the-variants.{NoAuthentication, RepeatedAuthentication, RelayInformation}
-use Rattle.dhcp_message.specs.Layout.{headerSize, relayCode, authCode, padSize, optionHead}
+use Rattle.dhcp_message.specs.Layout.{headerSize, typeCode, relayCode, authCode, padSize, optionHead}
 use Rattle.dhcp_message.specs.Options.{Token, pad, opt, Parsed, broken, parsed, Lead, nothing, end, token, lead, decode}
-use Rattle.dhcp_message.specs.Message.{Checked, stopped, passed, checkedOf}
-use Rattle.dhcp_message.specs.Said.{placesOf}
 use Rattle.dhcp_message.specs.declared.scan.Here.{Here}
 use Rattle.dhcp_message.specs.declared.scan.Here.the-variants.{Broken as HBroken, End as HEnd, Pad as HPad, Opt as HOpt}
 use Rattle.dhcp_message.specs.declared.scan.Tally.{Tally}
 use Rattle.dhcp_message.specs.declared.scan.Scan.{Scan}
 use Rattle.dhcp_message.specs.declared.scan.Scan.the-variants.{Broken as SBroken, Whole as SWhole}
-use Rattle.dhcp_message.specs.declared.scan.Shape.{Shape}
-use Rattle.dhcp_message.specs.declared.scan.Shape.the-variants.{Refused as SRefused, Passed as SPassed}
+use Rattle.dhcp_message.specs.declared.Shape.{Shape}
+use Rattle.dhcp_message.specs.declared.Shape.the-variants.{Refused as SRefused, Passed as SPassed}
+use Rattle.dhcp_message.specs.declared.types.Typing.{Typing}
+use Rattle.dhcp_message.specs.declared.types.Typing.the-variants.{NotYet, As, Spoiled}
+use Rattle.dhcp_message.specs.declared.MessageType.{MessageType}
+use Rattle.dhcp_message.specs.declared.MessageType.the-variants.{Stated, Unstated}
 
 abbrev pub leadOf : List ℕ → Lead
 leadOf [] = nothing
@@ -67,10 +69,32 @@ shapeFound f ends =
     (cond (eqb (f .n82) 0) (SPassed (record { at = f .at90; cut = ends; gap = 0 }))
     (cond (ltb 1 (f .n82)) (SRefused RelayInformation) (SPassed (record { at = f .at90; cut = f .at82; gap = f .size82 })))))
 
--- 2 to 7, with the places of a message that passes them
-abbrev pub shapeIn : Checked → Shape
-shapeIn (stopped r) = SRefused r
-shapeIn (passed ts rest) = SPassed (placesOf ts)
+-- ---- option 53
 
-unfoldable pub shapeOf : List ℕ → Shape
-shapeOf m = shapeIn (checkedOf m)
+-- what is found after one more option 53, by its body
+abbrev pub typedBy : Typing → List ℕ → Typing
+typedBy NotYet [] = Spoiled
+typedBy NotYet (v ∷ []) = As v
+typedBy NotYet (v ∷ w ∷ more) = Spoiled
+typedBy (As v) body = Spoiled
+typedBy Spoiled body = Spoiled
+
+-- after one option more
+unfoldable pub typedOf : Typing → ℕ → List ℕ → Typing
+typedOf t c body = cond (eqb c typeCode) (typedBy t body) t
+
+-- after tokens
+abbrev pub typedFrom : Typing → List Token → Typing
+typedFrom t [] = t
+typedFrom t (pad ∷ ts) = typedFrom t ts
+typedFrom t (opt c body ∷ ts) = typedFrom (typedOf t c body) ts
+
+-- what is stated where that was found of all options
+unfoldable pub typeFound : Typing → MessageType
+typeFound NotYet = Unstated
+typeFound (As v) = Stated v
+typeFound Spoiled = Unstated
+
+abbrev pub typedParsed : Typing → Parsed → MessageType
+typedParsed t broken = Unstated
+typedParsed t (parsed ts rest) = typeFound (typedFrom t ts)

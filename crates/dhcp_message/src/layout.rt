@@ -20,8 +20,10 @@ pub(crate) const COOKIE: [u8; 4] = [99, 130, 83, 99];
 
 pub(crate) const HEADER_SIZE: usize = 240;
 
-// Option codes (RFC 2132, section 3; RFC 3046; RFC 3118), and what an option takes besides its body: code and length. A pad is its code alone.
+// Option codes (RFC 2132, sections 3 and 9.6; RFC 3046; RFC 3118), and what an option takes besides its body: code and length. A pad is its code alone.
 pub(crate) const PAD: u8 = 0;
+
+pub(crate) const TYPE: u8 = 53;
 
 pub(crate) const RELAY: u8 = 82;
 
@@ -33,9 +35,12 @@ pub(crate) const PAD_SIZE: usize = 1;
 
 pub(crate) const OPTION_HEAD: usize = 2;
 
+// An option 53 that states a type takes this many bytes.
+pub(crate) const TYPE_OPTION: usize = OPTION_HEAD + 1;
+
 // Option 90 in full form (RFC 3118, section 5.2), by offset from its code:
 //   code 0, length 1, protocol 2, algorithm 3, replay method 4, counter 5..13, secret id 13..17, MAC 17..33
-pub(crate) const LENGTH_AT: usize = 1;
+pub const LENGTH_AT: usize = 1;
 
 pub(crate) const PROTOCOL_AT: usize = 2;
 
@@ -45,7 +50,7 @@ pub(crate) const REPLAY_METHOD_AT: usize = 4;
 
 pub const COUNTER_AT: usize = 5;
 
-pub(crate) const COUNTER_SIZE: usize = 8;
+pub const COUNTER_SIZE: usize = 8;
 
 pub(crate) const SECRET_ID_AT: usize = 13;
 

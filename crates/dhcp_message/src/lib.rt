@@ -1,17 +1,22 @@
-// A DHCPv4 message as RFC 3118's delayed authentication sees it: checks 2 to 9 (docs/RULES.md, 'Numbers'), what its option 90 says, the bytes
-// that the MAC covers, the writers of counter, secret id and MAC, and whether a counter is new.
-// Not here: the key, the MAC itself and where counters are stored.
+// A DHCPv4 message as authentication sees it: checks 2 to 9 (docs/RULES.md, 'Numbers'), what its option 90 says to RFC 3118's delayed
+// authentication, the bytes that its MAC covers, the writers of counter, secret id and MAC, the message type, and whether a counter is new.
+// Not here: the key, the MAC itself, where counters are stored, and what option 90 says by a nonce (forcerenew).
 pub use image::cover;
 pub use layout::COUNTER_AT;
+pub use layout::COUNTER_SIZE;
 pub use layout::FULL_SIZE;
+pub use layout::LENGTH_AT;
 pub use layout::MAC_AT;
 pub use layout::MAC_SIZE;
 pub use layout::MESSAGE_MOST;
 use refusal::Refusal;
 pub use replay::is_new;
 pub use said::form_of;
+pub use said::has_method;
+pub use scan::shape_of;
 pub use seal::put_fields;
 pub use seal::put_mac;
+pub use types::message_type;
 
 mod image;
 mod layout;
@@ -19,6 +24,26 @@ mod replay;
 mod said;
 mod scan;
 mod seal;
+mod types;
+
+// Where things stand in a message that passes 2 to 7, as in `Auth`.
+pub struct Places {
+    pub at: usize,
+    pub cut: usize,
+    pub gap: usize,
+}
+
+// What checks 2 to 7 give.
+pub enum Shape {
+    Refused(Refusal),
+    Passed(Places),
+}
+
+// The message type that option 53 states, or that it states none.
+pub enum MessageType {
+    Stated(u8),
+    Unstated,
+}
 
 // What option 90 in full form says, and where in the message: `at` is the offset of its code; option 82, before it or behind it, takes `gap` bytes
 // from `cut` on, none of them where the message has no option 82.

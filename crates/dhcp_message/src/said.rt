@@ -1,12 +1,15 @@
 // What option 90 says: checks 8 and 9, and with those before them 2 to 9 (docs/RULES.md, 'The message' and 'Numbers'; RFC 3118, section 5).
 ghost use mathlib.Core.Path.{_≡_};
+ghost use mathlib.Core.List.{[], _∷_};
 ghost use Prim.Native.Nat.{_+_, _≤_};
 ghost use lib.ListN.{length, getD, drop};
 ghost use Rattle.octets.specs.Bytes.{starts};
-ghost use Rattle.dhcp_message.specs.Layout.{optionHead, lengthAt, methodAt, counterAt, delayed};
+ghost use Rattle.dhcp_message.specs.Layout.{optionHead, lengthAt, methodAt};
 ghost use Rattle.dhcp_message.specs.Said.{saidBy, formSaid, formOf};
 use crate::Auth;
 use crate::Form;
+use crate::Places;
+use crate::Shape;
 use crate::layout::ALGORITHM;
 use crate::layout::ALGORITHM_AT;
 use crate::layout::COUNTER_AT;
@@ -20,23 +23,26 @@ use crate::layout::REPLAY_METHOD_AT;
 use crate::layout::REQUEST_LENGTH;
 use crate::layout::SECRET_ID_AT;
 use crate::layout::SECRET_ID_SIZE;
-use crate::scan::Places;
-use crate::scan::Shape;
 use crate::scan::shape_of;
 use refusal::Refusal;
 
-// Whether an option 90 has the bytes of delayed authentication with HMAC-MD5 and a counter: protocol, algorithm, replay method.
-fn is_delayed(message: &[u8], at: usize) -> bool
-    requires { ⌜ at + counterAt ≤ length (now message) ⌝ }
-    ensures { λ r. ⌜ r ≡ starts delayed (drop (at + methodAt) (now (message .entry))) ⌝ }
+// Whether an option 90 has this protocol, this algorithm and this replay method.
+pub fn has_method(message: &[u8], at: usize, protocol: u8, algorithm: u8, replay: u8) -> bool
+    ensures { λ r. ⌜ r ≡ starts (protocol ∷ algorithm ∷ replay ∷ []) (drop (at + methodAt) (now (message .entry))) ⌝ }
 {
-    if message[at + PROTOCOL_AT] != PROTOCOL {
+    if message.len() < COUNTER_AT {
         return false;
     }
-    if message[at + ALGORITHM_AT] != ALGORITHM {
+    if message.len() - COUNTER_AT < at {
         return false;
     }
-    message[at + REPLAY_METHOD_AT] == REPLAY_METHOD
+    if message[at + PROTOCOL_AT] != protocol {
+        return false;
+    }
+    if message[at + ALGORITHM_AT] != algorithm {
+        return false;
+    }
+    message[at + REPLAY_METHOD_AT] == replay
 }
 
 // Checks 8 and 9, of an option 90 that is whole.
@@ -47,7 +53,7 @@ fn form_at(message: &[u8], p: Places) -> Form
     let at = p.at;
     let len = message[at + LENGTH_AT];
     if len == FULL_LENGTH {
-        if is_delayed(message, at) {
+        if has_method(message, at, PROTOCOL, ALGORITHM, REPLAY_METHOD) {
             let counter = octets::big(message, at + COUNTER_AT, COUNTER_SIZE);
             let id = octets::big(message, at + SECRET_ID_AT, SECRET_ID_SIZE) as u32;
             return Form::Full(Auth {
@@ -61,7 +67,7 @@ fn form_at(message: &[u8], p: Places) -> Form
         return Form::Refused(Refusal::OtherAuthentication);
     }
     if len == REQUEST_LENGTH {
-        if is_delayed(message, at) {
+        if has_method(message, at, PROTOCOL, ALGORITHM, REPLAY_METHOD) {
             return Form::Refused(Refusal::RequestForm);
         }
         return Form::Refused(Refusal::OtherAuthentication);

@@ -1,10 +1,13 @@
-// Checks 2 to 7: one pass over the options, and what it finds.
+// Checks 2 to 7: one pass over the options, and what it finds. Delayed authentication and authentication by a nonce both begin with them.
 ghost use mathlib.Core.Path.{_≡_};
 ghost use Prim.Native.Nat.{_<_, _≤_, _^_};
 ghost use lib.ListN.{length, drop};
 ghost use Rattle.octets.specs.Bytes.{starts};
 ghost use Rattle.dhcp_message.specs.Layout.{cookieAt, headerSize, magicCookie};
-ghost use Rattle.dhcp_message.specs.Scan.{hereAt, seenOf, scanOf, shapeFound, shapeOf};
+ghost use Rattle.dhcp_message.specs.Shape.{shapeOf};
+ghost use Rattle.dhcp_message.specs.Scan.{hereAt, seenOf, scanOf, shapeFound};
+use crate::Places;
+use crate::Shape;
 use crate::layout::AUTHENTICATION;
 use crate::layout::COOKIE;
 use crate::layout::COOKIE_AT;
@@ -43,21 +46,8 @@ pub(crate) enum Scan {
     Whole { found: Tally, end: usize },
 }
 
-// The offsets of a message that passes 2 to 7, as in `Auth`.
-pub(crate) struct Places {
-    pub at: usize,
-    pub cut: usize,
-    pub gap: usize,
-}
-
-// What checks 2 to 7 give.
-pub(crate) enum Shape {
-    Refused(Refusal),
-    Passed(Places),
-}
-
 // What stands at an offset of the options.
-fn here_at(message: &[u8], at: usize) -> Here
+pub(crate) fn here_at(message: &[u8], at: usize) -> Here
     ensures { λ r. ⌜ r ≡ hereAt (now (message .entry)) at ⌝ }
 {
     if message.len() <= at {
@@ -183,8 +173,8 @@ fn is_cookie(message: &[u8]) -> bool
     message[COOKIE_AT + 3] == COOKIE[3]
 }
 
-// Checks 2 to 7.
-pub(crate) fn shape_of(message: &[u8]) -> Shape
+// Checks 2 to 7: the lowest that applies, or where option 90 and option 82 stand.
+pub fn shape_of(message: &[u8]) -> Shape
     ensures { λ r. ⌜ r ≡ shapeOf (now (message .entry)) ⌝ }
 {
     if message.len() < MESSAGE_LEAST {

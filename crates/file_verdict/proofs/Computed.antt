@@ -8,7 +8,7 @@ use Rattle.md5_block.specs.Block.{stepWith, stepAt, steps, round, compress}
 use Rattle.md5.specs.Block.{loadTo, load, blocks}
 use Rattle.md5.specs.Message.{md5, padded, padding, output}
 use Rattle.hmac_md5.specs.Hmac.{masked, hmac}
-use Rattle.octets.specs.Bytes.{written, filled}
+use Rattle.octets.specs.Bytes.{written, filled, sameBytes}
 use Rattle.octets.specs.Numbers.{le, value, littleAt, bigAt}
 use Rattle.dhcp_message.specs.Options.{decodeAt}
 use Rattle.dhcp_message.specs.Message.{checkedTokens, checkedOf}
@@ -17,7 +17,7 @@ use Rattle.dhcp_message.specs.Image.{imageOf}
 use Rattle.dhcp_message.specs.Replay.{isNew}
 use Rattle.key_book.specs.Book.{sound, sized, ascending, keySizes, markFits, marksFit, allBelow, placeFrom, rowIn, keyFits, keyIn}
 use Rattle.delayed_auth.specs.Admit.{admittedSaid}
-use Rattle.delayed_auth.specs.Check.{sameBytes, judgedRow, judgedSaid, checkOf}
+use Rattle.delayed_auth.specs.Check.{judgedRow, judgedSaid, checkOf}
 use Rattle.book_card.specs.Layout.{markSize, rowKind}
 use Rattle.book_card.specs.Reader.{formIn, markIn, frontOf, frontFrom, rowsInFront, readCard}
 use Rattle.book_card.specs.Reading.{slotsOf, loaded, readOf, rowsIn, readBook}

@@ -2,11 +2,11 @@
 use mathlib.Core.Path.{refl}
 use native.Mathlib.Omega.{arith}
 use Rattle.octets.specs.Examples.{OctetExamples}
-use Rattle.octets.specs.Bytes.{written, filled}
+use Rattle.octets.specs.Bytes.{written, filled, sameBytes}
 use Rattle.octets.specs.Numbers.{le, value, littleAt, be, bigAt}
 
 pub octet-examples : OctetExamples
-unfolding written filled le value littleAt be bigAt
+unfolding written filled sameBytes le value littleAt be bigAt
 octet-examples =
     record {
       low-first = refl;
@@ -19,6 +19,10 @@ octet-examples =
       filled-already = refl;
       starts-so = refl;
       starts-otherwise = refl;
+      same-so = refl;
+      same-otherwise = refl;
+      same-not-shorter = refl;
+      same-not-longer = refl;
       byte-255 = (omega arith, tt);
       byte-256 = λ h. absurd (omega (arith, h .0));
     }

@@ -1,6 +1,7 @@
 pub mod Written
 pub mod Filled
 pub mod Starts
+pub mod Comparing
 pub mod Elements
 pub mod LowFirst
 pub mod HighFirst

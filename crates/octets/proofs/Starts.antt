@@ -40,6 +40,15 @@ starts-append [] p q h = refl
 starts-append (x ∷ xs) [] q h = absurd (omega arith)
 starts-append (x ∷ xs) (y ∷ p) q h = ap (λ (t : Bool). eqb y x && t) (starts-append xs p q (omega arith))
 
+pub starts-short : (xs ys : List ℕ) → length ys < length xs → false ≡ starts xs ys
+starts-short [] ys h = absurd (omega arith)
+starts-short (x ∷ xs) [] h = refl
+starts-short (x ∷ xs) (y ∷ ys) h = by (eqb y x) (starts-short xs ys (omega arith))
+  where
+    by : (t : Bool) → false ≡ starts xs ys → false ≡ (t && starts xs ys)
+    by true e = e
+    by false e = refl
+
 -- byte by byte: one that differs ends it, one that agrees goes on with the next, the last one decides
 module _ (m : List ℕ) (at x : ℕ) (h : at < length m) where
   pub starts-byte : (xs : List ℕ) → starts (x ∷ xs) (drop at m) ≡ (eqb (getD m at 0) x && starts xs (drop (at + 1) m))

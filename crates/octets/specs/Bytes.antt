@@ -1,4 +1,4 @@
--- Lists of bytes: what a byte is, bytes written over a list, zeros behind a list, and a list's first bytes.
+-- Lists of bytes: what a byte is, bytes written over a list, zeros behind a list, a list's first bytes, and whether two lists are the same.
 use Prim.Native.Nat.{ℕ, zero, suc, _+_, _-_, _<_}
 use mathlib.Core.Bool.{Bool, true, false, _&&_}
 use mathlib.Core.List.{List, [], _∷_, _++_}
@@ -26,6 +26,13 @@ abbrev pub starts : List ℕ → List ℕ → Bool
 starts [] ys = true
 starts (x ∷ xs) [] = false
 starts (x ∷ xs) (y ∷ ys) = eqb y x && starts xs ys
+
+-- whether two lists of bytes are the same
+unfoldable pub sameBytes : List ℕ → List ℕ → Bool
+sameBytes [] [] = true
+sameBytes [] (y ∷ ys) = false
+sameBytes (x ∷ xs) [] = false
+sameBytes (x ∷ xs) (y ∷ ys) = eqb x y && sameBytes xs ys
 
 -- so many numbers, each one above the last, for examples
 abbrev pub upFrom : ℕ → ℕ → List ℕ

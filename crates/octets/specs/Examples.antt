@@ -2,7 +2,7 @@
 use mathlib.Core.Path.{_≡_}
 use mathlib.Core.Bool.{true, false}
 use mathlib.Core.List.{[], _∷_}
-use Rattle.octets.specs.Bytes.{Bytes, written, filled, starts, upFrom}
+use Rattle.octets.specs.Bytes.{Bytes, written, filled, starts, sameBytes, upFrom}
 use Rattle.octets.specs.Numbers.{le, littleAt, be, bigAt}
 
 pub record OctetExamples : Type 0 where
@@ -16,5 +16,9 @@ pub record OctetExamples : Type 0 where
   pub filled-already : filled 1 (7 ∷ 8 ∷ []) ≡ 7 ∷ 8 ∷ []
   pub starts-so : starts (1 ∷ 2 ∷ []) (upFrom 1 4) ≡ true
   pub starts-otherwise : starts (1 ∷ 3 ∷ []) (upFrom 1 4) ≡ false
+  pub same-so : sameBytes (1 ∷ 2 ∷ []) (1 ∷ 2 ∷ []) ≡ true
+  pub same-otherwise : sameBytes (1 ∷ 2 ∷ []) (1 ∷ 3 ∷ []) ≡ false
+  pub same-not-shorter : sameBytes (1 ∷ 2 ∷ []) (1 ∷ []) ≡ false
+  pub same-not-longer : sameBytes (1 ∷ []) (1 ∷ 2 ∷ []) ≡ false
   pub byte-255 : Bytes (255 ∷ [])
   pub byte-256 : Bytes (256 ∷ []) → ⊥

@@ -1,10 +1,10 @@
-// Bytes, and numbers in so many of them: copied, cleared, read and written at an offset. These functions serve the other crates, whose proofs show
+// Bytes, and numbers in so many of them: copied, cleared, compared, read and written at an offset. These functions serve the other crates, whose proofs show
 // that what they ask for fits; no entry of the library is here.
 // Not here: what the bytes of a message, a card or a line mean.
 ghost use mathlib.Core.Path.{_≡_};
 ghost use Prim.Native.Nat.{_+_, _≤_, _<_, _^_};
 ghost use lib.ListN.{length};
-ghost use Rattle.octets.specs.Bytes.{written, zeros};
+ghost use Rattle.octets.specs.Bytes.{written, zeros, sameBytes};
 ghost use Rattle.octets.specs.Numbers.{le, littleAt, be, bigAt};
 
 // Copies all of `from` to an offset of `to`.
@@ -25,6 +25,22 @@ pub fn clear(to: &mut [u8], at: usize, count: usize)
         to[at + i] = 0;
         i += 1;
     }
+}
+
+// Whether two byte strings are the same. Of two that are as long every byte is looked at, so that the time says nothing about where they differ.
+pub fn same(a: &[u8], b: &[u8]) -> bool
+    ensures { λ r. ⌜ r ≡ sameBytes (now (a .entry)) (now (b .entry)) ⌝ }
+{
+    if a.len() != b.len() {
+        return false;
+    }
+    let mut agree = true;
+    let mut i: usize = 0;
+    while i < a.len() {
+        agree = agree & (a[i] == b[i]);
+        i += 1;
+    }
+    agree
 }
 
 // The number at an offset, in so many bytes, the lowest first.

@@ -9,6 +9,8 @@ use Rattle.delayed_auth.specs.declared.Keyed.{Keyed}
 use Rattle.delayed_auth.specs.declared.Keyed.the-variants.{Row, NoKey}
 use Rattle.delayed_auth.specs.declared.Sealing.{Sealing}
 use Rattle.delayed_auth.specs.declared.Sealing.the-variants.{Sealed, Unsealed}
+use Rattle.forcerenew.specs.declared.Judged.{Judged}
+use Rattle.forcerenew.specs.declared.Judged.the-variants.{Accepted as Heeded, Refused as Unheeded}
 use Rattle.book_card.specs.declared.ReadAnswer.{ReadAnswer}
 use Rattle.book_card.specs.declared.ReadAnswer.the-variants.{Refused as ReadRefused, Rows}
 use Rattle.book_card.specs.declared.WriteAnswer.{WriteAnswer}
@@ -45,3 +47,12 @@ rowsPlace was (Rows n) = n
 abbrev pub cardPlace : (was : ℕ) → WriteAnswer → ℕ
 cardPlace was (WriteRefused r) = was
 cardPlace was (Size n) = n
+
+-- after a judgement by a nonce: option 90's type, and the counter
+abbrev pub kindPlace : (was : ℕ) → Judged → ℕ
+kindPlace was (Heeded kind counter) = kind
+kindPlace was (Unheeded r) = was
+
+abbrev pub judgedPlace : (was : ℕ) → Judged → ℕ
+judgedPlace was (Heeded kind counter) = counter
+judgedPlace was (Unheeded r) = was

@@ -1,7 +1,7 @@
 // The library as C calls it: every entry as an exported function, with its number (docs/RULES.md, 'Numbers') as its result. Names are those of
 // include/rimemagpie.h, for parameters too.
-// Each takes an entry's answer apart and decides nothing. The book is lent as in delayed_auth; a further result goes to a lent place, which a refusal
-// leaves as it was, but that a digest or MAC refused with 14 is 16 zero bytes there.
+// Each takes an entry's answer apart and decides nothing. The book is lent as in delayed_auth, server rows as in forcerenew; a further result goes to
+// a lent place, which a refusal leaves as it was, but that a digest or MAC refused with 14 is 16 zero bytes there.
 //
 // A slice is a pointer and a length to C. That these are right, and that what is lent doesn't overlap, is up to the caller.
 ghost use mathlib.Core.Path.{_≡_};
@@ -12,17 +12,21 @@ ghost use Rattle.key_book.specs.Book.{bookOf};
 ghost use Rattle.delayed_auth.specs.Check.{checkOf, marksAfter, receivedAfter, verdictNumber};
 ghost use Rattle.delayed_auth.specs.Key.{keyedOf, keyNumber};
 ghost use Rattle.delayed_auth.specs.Seal.{sealOf, sealingOf, messageAfter, sentAfter, outcomeNumber};
+ghost use Rattle.forcerenew.specs.Rows.{serversOf};
+ghost use Rattle.forcerenew.specs.Judging.{judgeOf, judgedOf, judgedNumber, noncesAfter, countersAfter, rowMarksAfter};
 ghost use Rattle.book_card.specs.declared.CardForm.the-variants.{Old, New};
 ghost use Rattle.book_card.specs.Reading.{readOf, readBook, rowsGiven, readNumber};
 ghost use Rattle.book_card.specs.Writing.{writeOf, roomAfter, writeNumber};
 ghost use Rattle.book_card.specs.Moving.{moveOf, roomMoved};
 ghost use Rattle.rimemagpie.specs.Places.{rowPlace, counterPlace, offsetPlace, sizePlace, sealedPlace, rowsPlace, cardPlace};
+ghost use Rattle.rimemagpie.specs.Places.{kindPlace, judgedPlace};
 use book_card::CardForm;
 use book_card::ReadAnswer;
 use book_card::WriteAnswer;
 use delayed_auth::Keyed;
 use delayed_auth::Sealing;
 use delayed_auth::Verdict;
+use forcerenew::Judged;
 
 // The digest of a message.
 #[no_mangle]
@@ -287,5 +291,52 @@ pub extern "C" fn rimemagpie_card_to_new(card: &[u8], room: &mut [u8], size: &mu
             0
         }
         WriteAnswer::Refused(refusal) => refusal::number(refusal),
+    }
+}
+
+// Judges a message from the server of a row, and where it is accepted stores its nonce, or its counter, and the row's mark.
+#[no_mangle]
+pub extern "C" fn rimemagpie_forcerenew(
+    nonces: &mut [u8],
+    counters: &mut [u64],
+    marks: &mut [u8],
+    row: usize,
+    message: &[u8],
+    kind: &mut u8,
+    counter: &mut u64,
+) -> u8
+    ensures number { λ r. ⌜
+        (let s = serversOf (now (nonces .entry)) (now (counters .entry)) (now (marks .entry)) in
+        r ≡ judgedNumber (judgedOf (judgeOf s row (now (message .entry)))))
+        ⌝ }
+    ensures nonces { λ _. ⌜
+        (let s = serversOf (now (nonces .entry)) (now (counters .entry)) (now (marks .entry)) in
+        now (nonces .exit) ≡ noncesAfter row (judgeOf s row (now (message .entry))) (now (nonces .entry)))
+        ⌝ }
+    ensures counters { λ _. ⌜
+        (let s = serversOf (now (nonces .entry)) (now (counters .entry)) (now (marks .entry)) in
+        now (counters .exit) ≡ countersAfter row (judgeOf s row (now (message .entry))) (now (counters .entry)))
+        ⌝ }
+    ensures marks { λ _. ⌜
+        (let s = serversOf (now (nonces .entry)) (now (counters .entry)) (now (marks .entry)) in
+        now (marks .exit) ≡ rowMarksAfter row (judgeOf s row (now (message .entry))) (now (marks .entry)))
+        ⌝ }
+    ensures kind { λ _. ⌜
+        (let s = serversOf (now (nonces .entry)) (now (counters .entry)) (now (marks .entry)) in
+        now (kind .exit) ≡ kindPlace (now (kind .entry)) (judgedOf (judgeOf s row (now (message .entry)))))
+        ⌝ }
+    ensures counter { λ _. ⌜
+        (let s = serversOf (now (nonces .entry)) (now (counters .entry)) (now (marks .entry)) in
+        now (counter .exit) ≡ judgedPlace (now (counter .entry)) (judgedOf (judgeOf s row (now (message .entry)))))
+        ⌝ }
+{
+    let judged = forcerenew::judge(nonces, counters, marks, row, message);
+    match judged {
+        Judged::Accepted(accepted, shown) => {
+            *kind = accepted;
+            *counter = shown;
+            0
+        }
+        Judged::Refused(refusal) => refusal::number(refusal),
     }
 }

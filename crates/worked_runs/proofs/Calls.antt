@@ -17,7 +17,7 @@ use Rattle.delayed_auth.specs.Seal.{sealOf, sealingOf, sealingNumber, messageAf
 use Rattle.demands.specs.Demand3.{check, seal, Answer, checked, bookAfter, answers, ending}
 use Rattle.demands.proofs.Stages.{CheckEnd, check-accepts, check-end}
 use Rattle.demands.proofs.Demand3.{demand-3}
-use Rattle.worked_runs.specs.Calls.{again, answerNumber, bufferOf}
+use Rattle.worked_runs.specs.Calls.{alone, again, answerNumber, bufferOf}
 
 module _ (b : Book) (m : List ℕ) (id : ℕ) (n : List ℕ) where
   -- the verdict of the second check
@@ -27,7 +27,7 @@ module _ (b : Book) (m : List ℕ) (id : ℕ) (n : List ℕ) where
   accepted-first : (k c : ℕ) → Sound b → checkOf b m ≡ Accepted k c → verdictNumber last ≡ numberOf Replay
   unfolding again
   accepted-first k c s e =
-      let r = demand-3 .no-replay b s (again m id n) 0 2 m m k c (omega arith) refl (ap (λ (v : Verdict). some (checked v)) e) refl unchanged in
+      let r = demand-3 .no-replay (alone b) s (again m id n) 0 2 m m k c (omega arith) refl (ap (λ (v : Verdict). some (checked v)) e) refl unchanged in
       let same : checked last ≡ checked (r .0) = Option·some-injective _ _ (r .1) in
       ap answerNumber same ∙ r .2
 
@@ -57,12 +57,12 @@ module _
     b = bookOf ids lengths store marks received sent rows
 
     abbrev run : List Answer
-    run = answers b (again m id n)
+    run = answers (alone b) (again m id n)
 
     pub make-up :
         (p ∷ q ∷ r ∷ [] ≡ map answerNumber run) × (buffer ≡ bufferOf run)
-        × (marks₂ ≡ ending b (again m id n) .marks) × (received₂ ≡ ending b (again m id n) .received) × (sent₁ ≡ ending b (again m id n) .sent) ×
-        (p ≡ done → r ≡ numberOf Replay)
+        × (marks₂ ≡ ending (alone b) (again m id n) .book .marks) × (received₂ ≡ ending (alone b) (again m id n) .book .received)
+        × (sent₁ ≡ ending (alone b) (again m id n) .book .sent) × (p ≡ done → r ≡ numberOf Replay)
     unfolding again
     make-up =
         rw (p-is, q-is, r-is, second-marks, second-stores, second-is, seal-leaves, seal-is, seal-stores, first-is, first-marks, first-stores)

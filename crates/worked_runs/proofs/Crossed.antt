@@ -17,13 +17,14 @@ use Rattle.key_book.proofs.Says.{sound-says}
 use Rattle.delayed_auth.specs.declared.Verdict.the-variants.{Refused}
 use Rattle.delayed_auth.specs.Check.{newTo, checkOf}
 use Rattle.demands.specs.Accepts.{Accepts}
-use Rattle.demands.specs.Demand3.{check, bookAt, Carried, same, relayed, Rearranged}
+use Rattle.demands.specs.Demand3.{check, stateAt, Carried, same, relayed, no-check, Rearranged}
 use Rattle.demands.specs.History.{names-it, under-it, OnlyOthersDiffer}
 use Rattle.demands.proofs.Below.{never}
 use Rattle.demands.proofs.Stages.{check-accepts, end-check}
 use Rattle.demands.proofs.Steps.{SameIds, row-kept}
 use Rattle.demands.proofs.Demand3.{demand-3, ids-at, never-new}
 use Rattle.demands.proofs.History.{history}
+use Rattle.worked_runs.specs.Calls.{alone}
 use Rattle.worked_runs.specs.Crossed.{idA, book, changedB, authA, authB, relayInfo, otherInfo, plain, behind}
 use Rattle.worked_runs.specs.Crossed.{forged, stale, first, second, place, Crossed}
 use Rattle.demands.proofs.Computing.{computing}
@@ -117,9 +118,10 @@ stale-on b w h k c a =
     true≢false (sym (a .new) ∙ ap₂ (newTo b) (sym here) (sym counter) ∙ h)
 
 -- a counter that is not new to secret A at the start is never new to it
-stale-refused : (k c : ℕ) → Accepts (bookAt book second 8) stale k c → ⊥
+stale-refused : (k c : ℕ) → Accepts (stateAt (alone book) second 8 .book) stale k c → ⊥
 stale-refused =
-    stale-on (bookAt book second 8) (ids-at book is-sound second 8) (never-new book is-sound second 0 8 0 10 (omega arith) (omega arith) old)
+    stale-on (stateAt (alone book) second 8 .book) (ids-at (alone book) is-sound second 8)
+    (never-new (alone book) is-sound second 0 8 0 10 (omega arith) (omega arith) old)
   where
     old : newTo book 0 10 ≡ false
     old = counter-old 10 10 (omega arith)
@@ -134,15 +136,15 @@ orders : inOrder first place ≡ true
 unfolding computing orderOf before beforeAll inOrder
 orders = refl
 
-made : Rearranged book first second place
+made : Rearranged (alone book) first second place
 unfolding from
 made =
-    rearranged book first second place from
+    rearranged (alone book) first second place from
     (refl and refl and refl and refl and refl and refl and refl and tt)
     ((_, refl, same) and (_, refl, same) and (_, refl, same) and (_, refl, same) and (_, refl, same)
     and (_, refl, relayed-A) and (_, refl, relayed-B) and tt)
     orders
-    ((forged, refl, forged-refused) and tt and tt and tt and tt and tt and tt and tt and (stale, refl, stale-refused) and tt)
+    ((check forged, refl, no-check forged-refused) and tt and tt and tt and tt and tt and tt and tt and (check stale, refl, no-check stale-refused) and tt)
 
 pub crossed : Crossed
 unfolding computing
@@ -159,7 +161,7 @@ crossed = record {
   others-differ = others-differ;
   check-of-A = names-it name-A;
   seal-of-A = under-it;
-  unseen = history .others-unseen book changedB is-sound changed-sound idA others-differ first;
+  unseen = history .others-unseen (alone book) (alone changedB) is-sound changed-sound idA others-differ first;
   made = made;
-  same-run = demand-3 .any-order book is-sound first second place made;
+  same-run = demand-3 .any-order (alone book) is-sound first second place made;
 }

@@ -1,5 +1,5 @@
 -- What the network may do to a run of a few steps, so that a worked second run is shown by computing: what holds of each step and of each place,
--- and the order of steps under one secret, decided. And a relay's change of hops, giaddr and option 82.
+-- and the order of steps under one secret or of one server, decided. And a relay's change of hops, giaddr and option 82.
 use mathlib.Core.Path.{_≡_, refl, sym, ap, subst, _∙_}
 use mathlib.Core.Logic.{_≢_}
 use mathlib.Core.Bool.{Bool, true, false, cond, _&&_}
@@ -16,9 +16,7 @@ use Rattle.dhcp_message.specs.Message.{Passes27}
 use Rattle.dhcp_message.specs.Said.{named}
 use Rattle.dhcp_message.specs.Image.{headWith}
 use Rattle.dhcp_message.specs.Relay.{RelayChange, Permitted}
-use Rattle.key_book.specs.Book.{Book}
-use Rattle.demands.specs.Accepts.{Accepts}
-use Rattle.demands.specs.Demand3.{Step, check, seal, bookAt, Carried, OneSecret, checks, seals, Rearranged}
+use Rattle.demands.specs.Demand3.{Step, check, seal, judge, State, stateAt, Carried, OneOrder, checks, seals, judgements, NotAccepted, Rearranged}
 
 -- ---- each of a few
 
@@ -46,17 +44,19 @@ each-step [] P h i s e = absurd (Option·none-ne-some s e)
 each-step (x ∷ l) P h zero s e = subst (P 0) (Option·some-injective x s e) (h .0)
 each-step (x ∷ l) P h (suc i) s e = each-step l (λ i. P (suc i)) (h .1) i s e
 
--- ---- the order of steps under one secret
+-- ---- the order of steps under one secret, and of those of one server
 
--- the order that a step is bound to, as a number: that of its secret's checks, or of its seals
+-- the order that a step is bound to, as a number: that of its secret's checks, or of its seals, or of its row's judgements
 unfoldable pub orderOf : Step → Option ℕ
-orderOf (check m) = Option·map (λ id. 2 * id) (named m)
-orderOf (seal id m) = some (2 * id + 1)
+orderOf (check m) = Option·map (λ id. 3 * id) (named m)
+orderOf (seal id m) = some (3 * id + 1)
+orderOf (judge k m) = some (3 * k + 2)
 
-one-order : (s t : Step) → OneSecret s t → (n : ℕ) × (orderOf s ≡ some n) × (orderOf t ≡ some n)
+one-order : (s t : Step) → OneOrder s t → (n : ℕ) × (orderOf s ≡ some n) × (orderOf t ≡ some n)
 unfolding orderOf
-one-order s t (checks {id = id} e f) = (2 * id, rw e, rw f)
-one-order s t (seals {id = id}) = (2 * id + 1, refl, refl)
+one-order s t (checks {id = id} e f) = (3 * id, rw e, rw f)
+one-order s t (seals {id = id}) = (3 * id + 1, refl, refl)
+one-order s t (judgements {k = k}) = (3 * k + 2, refl, refl)
 
 -- a step of order o at place p stands before one of order o′ at p′, if they are of one order
 unfoldable pub before : Option ℕ → ℕ → Option ℕ → ℕ → Bool
@@ -84,7 +84,7 @@ before-all n p (x ∷ l) place h zero t e f =
 before-all n p (x ∷ l) place h (suc j) t e f = before-all n p l (λ i. place (suc i)) (and-true (before (some n) p (orderOf x) (place 0)) _ h .1) j t e f
 
 order-kept : (l : List Step) (place : ℕ → ℕ) → inOrder l place ≡ true
-    → (i j : ℕ) (s t : Step) → getElem? l i ≡ some s → getElem? l j ≡ some t → OneSecret s t → i < j → place i < place j
+    → (i j : ℕ) (s t : Step) → getElem? l i ≡ some s → getElem? l j ≡ some t → OneOrder s t → i < j → place i < place j
 unfolding inOrder
 order-kept [] place h i j s t e f q l = absurd (Option·none-ne-some s e)
 order-kept (x ∷ xs) place h i zero s t e f q l = absurd (omega arith)
@@ -99,16 +99,16 @@ order-kept (x ∷ xs) place h (suc i) (suc j) s t e f q l =
 
 -- ---- a second run, by each step of the first and each place of its own
 
--- a check put in that is not accepted there
-abbrev pub PutIn : Book → List Step → ℕ → Type 0
-PutIn b second p = (m : List ℕ) × (getElem? second p ≡ some (check m)) × ((k c : ℕ) → Accepts (bookAt b second p) m k c → ⊥)
+-- a step put in that is not accepted there
+abbrev pub PutIn : State → List Step → ℕ → Type 0
+PutIn b second p = (t : Step) × (getElem? second p ≡ some t) × NotAccepted (stateAt b second p) t
 
--- a place where no step of the first run stands has a check put in; `from` goes back from a place to the step that stands there
-abbrev pub OrPutIn : Book → List Step → ℕ → Bool → Type 0
+-- a place where no step of the first run stands has a step put in; `from` goes back from a place to the step that stands there
+abbrev pub OrPutIn : State → List Step → ℕ → Bool → Type 0
 OrPutIn b second p true = Unit {0}
 OrPutIn b second p false = PutIn b second p
 
-pub rearranged : (b : Book) (first second : List Step) (place from : ℕ → ℕ)
+pub rearranged : (b : State) (first second : List Step) (place from : ℕ → ℕ)
     → Each (length first) (λ i. from (place i) ≡ i)
     → EachStep first (λ i s. (t : Step) × (getElem? second (place i) ≡ some t) × Carried s t)
     → inOrder first place ≡ true

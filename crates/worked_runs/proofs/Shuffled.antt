@@ -5,19 +5,24 @@ use mathlib.Core.List.{List, [], _∷_, _++_}
 use Prim.Native.Nat.{ℕ}
 use native.Mathlib.Omega.{arith}
 use lib.ListN.{getD, drop}
-use Rattle.refusal.specs.declared.Refusal.the-variants.{WrongMac}
+use Rattle.refusal.specs.declared.Refusal.the-variants.{WrongMac, NoNonce}
 use Rattle.dhcp_message.specs.Options.{Token, opt}
 use Rattle.dhcp_message.specs.Relay.{kept, added, Permitted, unchanged, changed}
 use Rattle.key_book.specs.Book.{Book, Sound}
 use Rattle.key_book.proofs.Says.{sound-says}
 use Rattle.delayed_auth.specs.declared.Verdict.the-variants.{Refused}
 use Rattle.delayed_auth.specs.Check.{checkOf}
-use Rattle.demands.specs.Accepts.{Accepts}
-use Rattle.demands.specs.Demand3.{check, seal, bookAfter, Carried, same, relayed, Rearranged}
+use Rattle.forcerenew.specs.declared.Judged.the-variants.{Refused as Unheeded}
+use Rattle.forcerenew.specs.Rows.{Servers}
+use Rattle.forcerenew.specs.Judging.{judgeOf, judgedOf}
+use Rattle.demands.specs.Accepts.{Accepts, Heeds}
+use Rattle.demands.specs.Demand3.{check, seal, judge, bookAfter, rowsAfter, Carried, same, relayed, no-check, no-judgement, Rearranged}
 use Rattle.demands.proofs.Below.{never}
 use Rattle.demands.proofs.Stages.{check-accepts, end-check}
+use Rattle.demands.proofs.Demand2.{demand-2}
 use Rattle.demands.proofs.Demand3.{demand-3}
-use Rattle.worked_runs.specs.Shuffled.{book, auth7, auth8, ended, relayInfo, sentMessage, relayedMessage, toSeal, forged, first, second, place, Shuffled}
+use Rattle.worked_runs.specs.Shuffled.{book, servers, start, auth7, auth8, ended, relayInfo, sentMessage, relayedMessage, toSeal, forged}
+use Rattle.worked_runs.specs.Shuffled.{ack, renewal, first, second, place, Shuffled}
 use Rattle.demands.proofs.Computing.{computing}
 use Rattle.worked_runs.proofs.Network.{_and_, orderOf, before, beforeAll, inOrder, rearranged, relays}
 
@@ -79,34 +84,58 @@ wrong-mac = refl
 not-accepted : (k c : ℕ) → Accepts after-seal forged k c → ⊥
 not-accepted k c a = let e = end-check after-seal forged _ (check-accepts after-seal-sound a) in never (cc wrong-mac)
 
+-- ---- nor are the judgements put in
+
+after-ack : Servers
+after-ack = rowsAfter servers (judge 0 ack)
+
+no-nonce : judgedOf (judgeOf servers 0 renewal) ≡ Unheeded NoNonce
+unfolding computing
+no-nonce = refl
+
+other-nonce : judgedOf (judgeOf after-ack 1 renewal) ≡ Unheeded WrongMac
+unfolding computing after-ack
+other-nonce = refl
+
+not-early : (type c : ℕ) → Heeds servers 0 renewal type c → ⊥
+not-early type c h = let e = demand-2 .heeded servers 0 renewal type c .1 h in never (cc no-nonce)
+
+not-elsewhere : (type c : ℕ) → Heeds after-ack 1 renewal type c → ⊥
+not-elsewhere type c h = let e = demand-2 .heeded after-ack 1 renewal type c .1 h in never (cc other-nonce)
+
 -- ---- the second run
 
 -- back from a place in the second run to the step of the first
 from : ℕ → ℕ
-from p = getD (2 ∷ 5 ∷ 1 ∷ 0 ∷ 3 ∷ 4 ∷ []) p 0
+from p = getD (10 ∷ 1 ∷ 10 ∷ 4 ∷ 10 ∷ 3 ∷ 2 ∷ 8 ∷ 0 ∷ 5 ∷ 6 ∷ 9 ∷ 7 ∷ []) p 10
 
 orders : inOrder first place ≡ true
 unfolding computing orderOf before beforeAll inOrder
 orders = refl
 
-made : Rearranged book first second place
-unfolding after-seal from
+made : Rearranged start first second place
+unfolding computing after-seal after-ack from
 made =
-    rearranged book first second place from
-    (refl and refl and refl and refl and refl and tt)
-    ((_, refl, relayed-7) and (_, refl, relayed-8) and (_, refl, same) and (_, refl, same) and (_, refl, relayed-again) and tt)
+    rearranged start first second place from
+    (refl and refl and refl and refl and refl and refl and refl and refl and refl and refl and tt)
+    ((_, refl, relayed-7) and (_, refl, same) and (_, refl, relayed-8) and (_, refl, same) and (_, refl, same)
+    and (_, refl, same) and (_, refl, same) and (_, refl, same) and (_, refl, same) and (_, refl, relayed-again) and tt)
     orders
-    (tt and (forged, refl, not-accepted) and tt and tt and tt and tt and tt)
+    ((judge 0 renewal, refl, no-judgement not-early) and tt and (judge 1 renewal, refl, no-judgement not-elsewhere) and tt
+    and (check forged, refl, no-check not-accepted) and tt and tt and tt and tt and tt and tt and tt and tt and tt)
 
 pub shuffled : Shuffled
-unfolding computing after-seal
+unfolding computing after-seal after-ack
 shuffled = record {
   is-sound = is-sound;
   first-answers = refl;
   first-marks = refl;
   first-received = refl;
   first-sent = refl;
+  first-servers = refl;
   forged-there = wrong-mac;
+  renewal-early = no-nonce;
+  renewal-elsewhere = other-nonce;
   made = made;
-  same-run = demand-3 .any-order book is-sound first second place made;
+  same-run = demand-3 .any-order start is-sound first second place made;
 }

@@ -16,6 +16,7 @@ use Rattle.delayed_auth.specs.declared.Verdict.the-variants.{Accepted, Refused}
 use Rattle.delayed_auth.specs.declared.Sealing.the-variants.{Sealed, Unsealed}
 use Rattle.demands.specs.Demand3.{Step, check, seal, checked, wrote, answers, ending, Rearranged, SameRun}
 use Rattle.demands.specs.History.{acceptedIn, sealsIn, Concerns, OnlyOthersDiffer, SameFor}
+use Rattle.worked_runs.specs.Calls.{alone}
 
 -- the two secrets, and their counters: bytes 1 to 4 and 5 to 8, received 1 to 8, sent 17 to 22, 23 and 255
 abbrev pub idA : ℕ
@@ -127,22 +128,22 @@ place (suc (suc (suc (suc (suc (suc i)))))) = 4
 pub record Crossed : Type 0 where
   pub is-sound : Sound book
   -- in the first run two seals are done and one is refused, its buffer as it was; two checks name no secret; two are accepted
-  pub first-answers : answers book first
+  pub first-answers : answers (alone book) first
       ≡ wrote (Sealed 4) sealedA ∷ wrote (Sealed 1230066625199609856) sealedB ∷ wrote (Unsealed UnknownSecret) toSeal
       ∷ checked (Refused MessageSize) ∷ checked (Refused NoAuthentication) ∷ checked (Accepted 0 counterA) ∷ checked (Accepted 1 20) ∷ []
-  pub first-marks : ending book first .marks ≡ 1 ∷ 1 ∷ []
-  pub first-received : ending book first .received ≡ counterA ∷ 20 ∷ []
-  pub first-sent : ending book first .sent ≡ 4 ∷ 1230066625199609856 ∷ []
+  pub first-marks : ending (alone book) first .book .marks ≡ 1 ∷ 1 ∷ []
+  pub first-received : ending (alone book) first .book .received ≡ counterA ∷ 20 ∷ []
+  pub first-sent : ending (alone book) first .book .sent ≡ 4 ∷ 1230066625199609856 ∷ []
   -- what `History` counts in it, for a secret that is in the book and for one that is not
-  pub accepted-A : acceptedIn idA book first ≡ counterA ∷ []
-  pub seals-A : sealsIn idA book first ≡ 1
-  pub seals-none : sealsIn 9 book first ≡ 0
+  pub accepted-A : acceptedIn idA (alone book) first ≡ counterA ∷ []
+  pub seals-A : sealsIn idA (alone book) first ≡ 1
+  pub seals-none : sealsIn 9 (alone book) first ≡ 0
   -- and what it says of a book that differs in secret B: secret A has a check and a seal in the run, and gets the same
   pub changed-sound : Sound changedB
   pub others-differ : OnlyOthersDiffer idA book changedB
   pub check-of-A : Concerns idA (check (plain (authA ++ relayInfo)))
   pub seal-of-A : Concerns idA (seal idA toSeal)
-  pub unseen : SameFor idA book changedB first
+  pub unseen : SameFor idA (alone book) (alone changedB) first
   -- the network can make the second run of it, so demand 3 says that its answers and its end are the same
-  pub made : Rearranged book first second place
-  pub same-run : SameRun book first second place
+  pub made : Rearranged (alone book) first second place
+  pub same-run : SameRun (alone book) first second place

@@ -8,7 +8,7 @@ ghost use Rattle.key_book.specs.Book.{bookOf};
 ghost use Rattle.delayed_auth.specs.Check.{verdictNumber};
 ghost use Rattle.delayed_auth.specs.Seal.{sealingNumber};
 ghost use Rattle.demands.specs.Demand3.{answers, ending};
-ghost use Rattle.worked_runs.specs.Calls.{again, answerNumber, bufferOf};
+ghost use Rattle.worked_runs.specs.Calls.{alone, again, answerNumber, bufferOf};
 use delayed_auth::Sealing;
 use delayed_auth::Verdict;
 
@@ -55,23 +55,23 @@ pub fn check_again(
 ) -> Numbers
     ensures numbers { λ r. ⌜
         (let b = bookOf (now (ids .entry)) (now (lengths .entry)) (now (store .entry)) (now (marks .entry)) (now (received .entry)) (now (sent .entry)) rows in
-        r .first ∷ r .sealed ∷ r .second ∷ [] ≡ map answerNumber (answers b (again (now (message .entry)) id (now (buffer .entry)))))
+        r .first ∷ r .sealed ∷ r .second ∷ [] ≡ map answerNumber (answers (alone b) (again (now (message .entry)) id (now (buffer .entry)))))
         ⌝ }
     ensures sealed { λ _. ⌜
         (let b = bookOf (now (ids .entry)) (now (lengths .entry)) (now (store .entry)) (now (marks .entry)) (now (received .entry)) (now (sent .entry)) rows in
-        now (buffer .exit) ≡ bufferOf (answers b (again (now (message .entry)) id (now (buffer .entry)))))
+        now (buffer .exit) ≡ bufferOf (answers (alone b) (again (now (message .entry)) id (now (buffer .entry)))))
         ⌝ }
     ensures marks { λ _. ⌜
         (let b = bookOf (now (ids .entry)) (now (lengths .entry)) (now (store .entry)) (now (marks .entry)) (now (received .entry)) (now (sent .entry)) rows in
-        now (marks .exit) ≡ ending b (again (now (message .entry)) id (now (buffer .entry))) .marks)
+        now (marks .exit) ≡ ending (alone b) (again (now (message .entry)) id (now (buffer .entry))) .book .marks)
         ⌝ }
     ensures received { λ _. ⌜
         (let b = bookOf (now (ids .entry)) (now (lengths .entry)) (now (store .entry)) (now (marks .entry)) (now (received .entry)) (now (sent .entry)) rows in
-        now (received .exit) ≡ ending b (again (now (message .entry)) id (now (buffer .entry))) .received)
+        now (received .exit) ≡ ending (alone b) (again (now (message .entry)) id (now (buffer .entry))) .book .received)
         ⌝ }
     ensures sent { λ _. ⌜
         (let b = bookOf (now (ids .entry)) (now (lengths .entry)) (now (store .entry)) (now (marks .entry)) (now (received .entry)) (now (sent .entry)) rows in
-        now (sent .exit) ≡ ending b (again (now (message .entry)) id (now (buffer .entry))) .sent)
+        now (sent .exit) ≡ ending (alone b) (again (now (message .entry)) id (now (buffer .entry))) .book .sent)
         ⌝ }
     ensures replay { λ r. ⌜ (r .first ≡ done → r .second ≡ numberOf Replay) ⌝ }
 {

@@ -341,6 +341,177 @@ static void messages(size_t authentication_at, size_t relay_agent_at)
     free_book(book);
 }
 
+/* Two server rows. */
+struct servers {
+    uint8_t *nonces;
+    uint64_t *counters;
+    uint8_t *marks;
+};
+
+/* Row 0 is heard, with counter 20, and row 1 has no nonce yet. */
+static struct servers two_servers(void)
+{
+    struct servers servers;
+
+    servers.nonces = (uint8_t *)calloc(2, 16);
+    servers.counters = (uint64_t *)calloc(2, sizeof *servers.counters);
+    servers.marks = (uint8_t *)calloc(2, 1);
+    EXPECT(servers.nonces && servers.counters && servers.marks);
+    memset(servers.nonces, 5, 16);
+    servers.counters[0] = 20;
+    servers.marks[0] = RIMEMAGPIE_SERVER_HEARD;
+    return servers;
+}
+
+static void free_servers(struct servers servers)
+{
+    free(servers.nonces);
+    free(servers.counters);
+    free(servers.marks);
+}
+
+#define LENT_SERVERS(servers) (servers).nonces, 32, (servers).counters, 2, (servers).marks, 2
+
+/* The bytes of the messages below, and where option 90 stands in them. */
+#define BY_NONCE_SIZE 281
+#define BY_NONCE_AT 249
+
+/* 236 zeros but for hops and giaddr, the cookie, an option 82, option 53, option 90 by nonce, a pad and End. */
+static uint8_t *by_nonce(uint8_t message_type, uint8_t kind, uint8_t counter, const uint8_t value[16])
+{
+    static const uint8_t options[] = {99, 130, 83, 99, 82, 4, 1, 2, 3, 4, 53, 1, 0, 90, 28, 3, 1, 0};
+    uint8_t message[BY_NONCE_SIZE];
+
+    memset(message, 0, sizeof message);
+    message[3] = 1;
+    message[24] = 10;
+    memcpy(message + 236, options, sizeof options);
+    message[BY_NONCE_AT - 1] = message_type;
+    message[BY_NONCE_AT + 12] = counter;
+    message[BY_NONCE_AT + 13] = kind;
+    memcpy(message + BY_NONCE_AT + 14, value, 16);
+    message[BY_NONCE_SIZE - 1] = 255;
+    return block_of(message, sizeof message);
+}
+
+/* A FORCERENEW with the right MAC under a nonce, which covers all of it with zeros in the MAC's place. */
+static uint8_t *order_under(const uint8_t nonce[16], uint8_t counter)
+{
+    static const uint8_t zeros[16] = {0};
+    uint8_t *message = by_nonce(9, 2, counter, zeros);
+    uint8_t mac[16];
+
+    EXPECT(rimemagpie_hmac(nonce, 16, message, BY_NONCE_SIZE, mac) == RIMEMAGPIE_DONE);
+    memcpy(message + BY_NONCE_AT + 14, mac, sizeof mac);
+    return message;
+}
+
+/* A judgement that is refused with this number changes nothing: no row, nor type and counter. */
+static void judgement_refused(struct servers servers, size_t row, const uint8_t *message, size_t size, uint8_t number)
+{
+    uint8_t *nonces = block_of(servers.nonces, 32), *marks = block_of(servers.marks, 2);
+    uint64_t counters[2] = {servers.counters[0], servers.counters[1]}, counter = 7;
+    uint8_t kind = 7;
+
+    EXPECT(rimemagpie_forcerenew(LENT_SERVERS(servers), row, message, size, &kind, &counter) == number);
+    EXPECT(kind == 7 && counter == 7);
+    EXPECT(memcmp(servers.nonces, nonces, 32) == 0 && memcmp(servers.marks, marks, 2) == 0);
+    EXPECT(servers.counters[0] == counters[0] && servers.counters[1] == counters[1]);
+    free(nonces);
+    free(marks);
+}
+
+/* A message with a byte changed is refused with this number. */
+static void refused_with(struct servers servers, uint8_t *message, size_t at, uint8_t value, uint8_t number)
+{
+    uint8_t kept = message[at];
+
+    message[at] = value;
+    judgement_refused(servers, 1, message, BY_NONCE_SIZE, number);
+    message[at] = kept;
+}
+
+/* Row 1 gets its nonce, and then an order, which is believed once. Row 0 stays as it is. */
+static void nonce_and_order(struct servers servers, const uint8_t *ack, const uint8_t *order, uint8_t nonce)
+{
+    uint64_t counter = 7;
+    uint8_t kind = 7;
+
+    judgement_refused(servers, 1, order, BY_NONCE_SIZE, RIMEMAGPIE_NO_NONCE);
+    EXPECT(rimemagpie_forcerenew(LENT_SERVERS(servers), 1, ack, BY_NONCE_SIZE, &kind, &counter) == RIMEMAGPIE_DONE);
+    EXPECT(kind == 1 && counter == 3 && servers.counters[1] == 0 && servers.marks[1] == RIMEMAGPIE_SERVER_NOT_HEARD);
+    for (size_t i = 0; i < 32; i++)
+        EXPECT(servers.nonces[i] == (i < 16 ? 5 : nonce));
+    EXPECT(rimemagpie_forcerenew(LENT_SERVERS(servers), 1, order, BY_NONCE_SIZE, &kind, &counter) == RIMEMAGPIE_DONE);
+    EXPECT(kind == 2 && counter == 9 && servers.counters[1] == 9 && servers.marks[1] == RIMEMAGPIE_SERVER_HEARD);
+    judgement_refused(servers, 1, order, BY_NONCE_SIZE, RIMEMAGPIE_REPLAY);
+    EXPECT(rimemagpie_forcerenew(LENT_SERVERS(servers), 1, ack, BY_NONCE_SIZE, &kind, &counter) == RIMEMAGPIE_DONE);
+    EXPECT(kind == 1 && counter == 3 && servers.counters[1] == 9 && servers.marks[1] == RIMEMAGPIE_SERVER_HEARD);
+    EXPECT(servers.counters[0] == 20 && servers.marks[0] == RIMEMAGPIE_SERVER_HEARD);
+}
+
+/* Sizes that disagree, and those that agree, for a row that is not there. */
+static void sizes_of_servers(struct servers servers, const uint8_t *ack)
+{
+    uint64_t counter = 7;
+    uint8_t kind = 7;
+
+    for (size_t nonces = 0; nonces <= 32; nonces++)
+        for (size_t counters = 0; counters <= 2; counters++)
+            for (size_t marks = 0; marks <= 1; marks++) {
+                uint8_t number = rimemagpie_forcerenew(servers.nonces, nonces, servers.counters, counters, servers.marks,
+                                                       marks, 5, ack, BY_NONCE_SIZE, &kind, &counter);
+                int agree = nonces == 16 * marks && counters == marks;
+
+                EXPECT(number == (agree ? RIMEMAGPIE_UNKNOWN_SECRET : RIMEMAGPIE_UNSOUND_BOOK));
+            }
+    EXPECT(kind == 7 && counter == 7);
+}
+
+/* What is wrong with a FORCERENEW for row 1, which is heard, in the order in which it is judged. */
+static void orders_refused(struct servers servers, uint8_t *order)
+{
+    servers.marks[0] = 3;
+    judgement_refused(servers, 1, order, 0, RIMEMAGPIE_UNSOUND_BOOK);
+    servers.marks[0] = RIMEMAGPIE_SERVER_HEARD;
+    for (size_t size = 0; size < BY_NONCE_SIZE; size++) {
+        uint8_t expected = size < 241 ? RIMEMAGPIE_MESSAGE_SIZE : RIMEMAGPIE_BROKEN_OPTIONS;
+        uint8_t *cut = block_of(order, size);
+
+        judgement_refused(servers, 2, cut, size, expected);
+        free(cut);
+    }
+    judgement_refused(servers, 2, order, BY_NONCE_SIZE, RIMEMAGPIE_UNKNOWN_SECRET);
+    judgement_refused(servers, SIZE_MAX, order, BY_NONCE_SIZE, RIMEMAGPIE_UNKNOWN_SECRET);
+    refused_with(servers, order, BY_NONCE_AT + 2, 1, RIMEMAGPIE_NOT_BY_NONCE);
+    refused_with(servers, order, BY_NONCE_AT + 13, 3, RIMEMAGPIE_WRONG_TYPE);
+    refused_with(servers, order, BY_NONCE_AT - 1, 5, RIMEMAGPIE_WRONG_TYPE);
+    refused_with(servers, order, BY_NONCE_AT + 12, 9, RIMEMAGPIE_REPLAY);
+    refused_with(servers, order, 3, 2, RIMEMAGPIE_WRONG_MAC);
+    refused_with(servers, order, 242, 9, RIMEMAGPIE_WRONG_MAC);
+    judgement_refused(servers, 0, order, BY_NONCE_SIZE, RIMEMAGPIE_REPLAY);
+}
+
+/* Judgements by nonce. */
+static void judgements(void)
+{
+    uint8_t nonce[16];
+    struct servers servers = two_servers();
+    uint8_t *ack, *order, *next;
+
+    memset(nonce, 8, sizeof nonce);
+    ack = by_nonce(5, 1, 3, nonce);
+    order = order_under(nonce, 9);
+    next = order_under(nonce, 10);
+    sizes_of_servers(servers, ack);
+    nonce_and_order(servers, ack, order, nonce[0]);
+    orders_refused(servers, next);
+    free(ack);
+    free(order);
+    free(next);
+    free_servers(servers);
+}
+
 int main(void)
 {
     struct book book = book_of_two();
@@ -350,6 +521,7 @@ int main(void)
     messages(246, 240);
     cards(book);
     moves(book);
+    judgements();
     free_book(book);
     return 0;
 }

@@ -3,7 +3,7 @@
 
 use crate::harness::{same, same_items, Difference};
 use crate::random::Random;
-use reference::Book;
+use reference::{Book, Servers};
 use std::fmt::Debug;
 use std::ops::Range;
 
@@ -78,5 +78,29 @@ impl LentBook {
         self.marks.holds("marks", &expected.marks)?;
         self.received.holds("received", &expected.received)?;
         self.sent.holds("sent", &expected.sent)
+    }
+}
+
+/// The three buffers of server rows.
+pub struct LentServers {
+    pub nonces: Lent<u8>,
+    pub counters: Lent<u64>,
+    pub marks: Lent<u8>,
+}
+
+impl LentServers {
+    pub fn new(servers: &Servers, random: &mut Random) -> Self {
+        LentServers {
+            nonces: Lent::new(&servers.nonces, random),
+            counters: Lent::new(&servers.counters, random),
+            marks: Lent::new(&servers.marks, random),
+        }
+    }
+
+    /// Whether all three buffers hold what the server rows have.
+    pub fn holds(&self, expected: &Servers) -> Result<(), Difference> {
+        self.nonces.holds("nonces", &expected.nonces)?;
+        self.counters.holds("counters", &expected.counters)?;
+        self.marks.holds("marks", &expected.marks)
     }
 }

@@ -1,5 +1,6 @@
 //! Holds the proved library against the second implementation: seeded inputs, lent buffers that
-//! show any stray write, counts of the numbers that came up, and whole runs of checks and seals.
+//! show any stray write, counts of the numbers that came up, and whole runs of checks, seals and
+//! judgements by nonce.
 //!
 //! Environment variables, all optional:
 //!   RIMEMAGPIE_CASES          cases for each entry (100,000)
@@ -15,6 +16,7 @@ pub mod generate;
 pub mod harness;
 pub mod lent;
 pub mod met;
+pub mod met_forcerenew;
 pub mod outside;
 pub mod programs;
 pub mod random;

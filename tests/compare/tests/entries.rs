@@ -1,16 +1,16 @@
 //! Each entry of the C interface beside the second implementation: the number returned, the places
 //! of results, and all lent buffers whole after every call, refused ones too.
 
-use compare::generate::{books, cards, messages};
+use compare::generate::{books, cards, forcerenew as by_nonce, messages, servers};
 use compare::harness::{compare, on_bytes, same, same_items, Difference, Tally};
-use compare::lent::{Lent, LentBook};
-use compare::met;
+use compare::lent::{Lent, LentBook, LentServers};
 use compare::random::Random;
 use compare::runs::any_id;
+use compare::{met, met_forcerenew};
 use reference::book::SLOT;
 use reference::card::{card_of_rows, rows_of_card};
 use reference::refusal::number_of;
-use reference::{Accepted, Book, Form};
+use reference::{Accepted, Book, Form, Judged, Servers};
 use rimemagpie::c;
 
 #[test]
@@ -483,4 +483,75 @@ fn moved_back(moved: &[u8], card: &[u8]) -> Result<(), Difference> {
     };
     let back = moved_by_library(form, moved)?;
     same_items("the card moved back", card, &back)
+}
+
+#[test]
+fn forcerenew() {
+    let reachable = [0, 1, 2, 3, 4, 5, 6, 7, 10, 11, 12, 19, 20, 21];
+    let mut tally = Tally::new("forcerenew, by row and message");
+    let mut sizes = Tally::new("forcerenew, by number of rows");
+    let mut macs = Tally::new("forcerenew, by MAC");
+    compare("forcerenew", &reachable, |random| {
+        let (servers, row, message) = servers_row_and_message(random);
+        let answer = forcerenew_case(random, &servers, row, &message);
+        let number = on_bytes(answer, "message", &message)?;
+        tally.count(met_forcerenew::by_judgement(
+            &servers, row, &message, number,
+        ));
+        sizes.count(met_forcerenew::by_size(&servers, number));
+        let met = met_forcerenew::by_mac(&servers, row, &message, number);
+        met.into_iter().for_each(|what| macs.count(what));
+        Ok(number)
+    });
+    tally.print();
+    tally.require(&met_forcerenew::judged());
+    sizes.print();
+    sizes.require(&met_forcerenew::SIZES.map(String::from));
+    macs.print();
+    macs.require(&met_forcerenew::MACS.map(String::from));
+}
+
+/// Server rows, the number of one and a message for it; one set of rows in eight is then spoiled.
+fn servers_row_and_message(random: &mut Random) -> (Servers, usize, Vec<u8>) {
+    let mut servers = servers::sound(random);
+    let row = servers::any_row(random, servers.rows());
+    let message = by_nonce::any(random, &servers, row);
+    if random.one_in(8) {
+        servers::spoil(random, &mut servers);
+    }
+    (servers, row, message)
+}
+
+fn forcerenew_case(
+    random: &mut Random,
+    servers: &Servers,
+    row: usize,
+    message: &[u8],
+) -> Result<u8, Difference> {
+    let mut servers_after = servers.clone();
+    let expected = reference::forcerenew(&mut servers_after, row, message);
+
+    let mut lent = LentServers::new(servers, random);
+    let lent_message = Lent::new(message, random);
+    let before = (random.u8(), random.u64());
+    let (mut kind, mut counter) = before;
+    let number = c::forcerenew(
+        lent.nonces.items_mut(),
+        lent.counters.items_mut(),
+        lent.marks.items_mut(),
+        row,
+        lent_message.items(),
+        &mut kind,
+        &mut counter,
+    );
+
+    same("the number", &number_of(&expected), &number)?;
+    let results = match expected {
+        Ok(Judged { kind, counter }) => (kind, counter),
+        Err(_) => before,
+    };
+    same("kind and counter", &results, &(kind, counter))?;
+    lent.holds(&servers_after)?;
+    lent_message.holds("message", message)?;
+    Ok(number)
 }

@@ -1,6 +1,6 @@
-//! One name, one meaning: the refusals, the marks and the entries' parameters have the same names and
-//! numbers in Rattle, in C, in Rust and in the rules, and the book's parts the same order. The files
-//! are read as text, a line at a time.
+//! One name, one meaning: the refusals, the marks and the entries' parameters have the same names
+//! and numbers in Rattle, in C, in Rust and in the rules, and the parts of the book and of the
+//! server rows the same order. The files are read as text, a line at a time.
 
 use compare::outside::repository_file;
 use rimemagpie::Refusal;
@@ -120,11 +120,39 @@ fn marks_are_the_same_in_rattle_c_and_rust() {
     }
 }
 
+/// The marks of server rows of a file, among its constants of a byte.
+fn server_marks_in(path: &str) -> Vec<Named> {
+    let names = ["NONE_YET", "NOT_HEARD", "HEARD"];
+    let mut marks = marks_in(path);
+    marks.retain(|(name, _)| names.contains(&name.as_str()));
+    assert_eq!(marks.len(), names.len(), "{path}");
+    marks
+}
+
+/// In C their names begin with `SERVER_`, since they are not a book's.
+#[test]
+fn marks_of_server_rows_are_the_same_in_rattle_c_and_rust() {
+    let marks = server_marks_in("crates/forcerenew/src/rows.rt");
+    for path in [
+        "rust/src/forcerenew.rs",
+        "tests/reference/src/forcerenew.rs",
+    ] {
+        assert_eq!(server_marks_in(path), marks, "{path}");
+    }
+    let in_c = |(name, number): Named| (format!("SERVER_{name}"), number);
+    let marks: Vec<Named> = marks.into_iter().map(in_c).collect();
+    assert_eq!(enum_in_header("rimemagpie_server_mark"), marks);
+}
+
 /// The header numbers nothing but answers and marks.
 #[test]
 fn each_number_of_the_header_is_an_answer_or_a_mark() {
     let all = named_in(&text_of("include/rimemagpie.h"), IN_HEADER);
-    let enums = ["rimemagpie_number", "rimemagpie_mark"];
+    let enums = [
+        "rimemagpie_number",
+        "rimemagpie_mark",
+        "rimemagpie_server_mark",
+    ];
     assert_eq!(all, enums.map(enum_in_header).concat());
 }
 
@@ -161,7 +189,7 @@ fn parameters_are_the_same_in_rattle_c_and_rust() {
         ") -> u8",
         name_in_rust,
     );
-    assert_eq!(entries.len(), 9);
+    assert_eq!(entries.len(), 10);
     let in_order = |mut entries: Vec<Vec<String>>| {
         entries.sort();
         entries
@@ -177,21 +205,24 @@ fn parameters_are_the_same_in_rattle_c_and_rust() {
     assert_eq!(in_order(safe), entries);
 }
 
-/// The book's parts, in the order of the rules' table: `| `ids` | ..` under its heading.
-fn parts_in_rules() -> Vec<String> {
+/// The parts of the book or of the server rows, in the order of the rules' table with this heading:
+/// `| `ids` | ..` under it.
+fn parts_in_rules(heading: &str) -> Vec<String> {
     let rules = text_of("docs/RULES.md");
     let (_, table) = rules
-        .split_once("| Name | Holds |")
-        .expect("the rules have a table of the book's parts");
+        .split_once(heading)
+        .unwrap_or_else(|| panic!("the rules have no table {heading}"));
     let name = |line: &str| Some(line.strip_prefix("| `")?.split_once('`')?.0.to_string());
     let rows = table.lines().skip(2).map_while(name);
     rows.collect()
 }
 
-/// The fields of a `pub struct Book`.
-fn fields_of_book(path: &str) -> Vec<String> {
+/// The fields of a `pub struct`.
+fn fields_of(name: &str, path: &str) -> Vec<String> {
     let text = text_of(path);
-    let (_, fields) = text.split_once("pub struct Book").expect("there is a book");
+    let (_, fields) = text
+        .split_once(&format!("pub struct {name}"))
+        .expect("there is the struct");
     let lines = fields.lines().take_while(|line| *line != "}");
     let name = |line: &str| {
         Some(
@@ -205,20 +236,38 @@ fn fields_of_book(path: &str) -> Vec<String> {
     lines.filter_map(name).collect()
 }
 
-#[test]
-fn the_book_has_the_same_parts_in_the_same_order() {
-    let parts = parts_in_rules();
-    assert_eq!(parts.len(), 7);
-    for path in ["rust/src/lib.rs", "tests/reference/src/book.rs"] {
-        assert_eq!(fields_of_book(path), parts, "{path}");
-    }
+/// In how many entries of the header the parts stand, in this order.
+fn entries_with(parts: &[String]) -> usize {
     let header = text_of("include/rimemagpie.h");
     let mut lent = 0;
     for entry in entries_in(&header, "uint8_t rimemagpie_", ");", name_in_c) {
         if let Some(at) = entry.iter().position(|name| *name == parts[0]) {
-            assert_eq!(entry[at..at + parts.len()], parts, "{}", entry[0]);
+            assert_eq!(entry[at..at + parts.len()], *parts, "{}", entry[0]);
             lent += 1;
         }
     }
-    assert_eq!(lent, 5);
+    lent
+}
+
+#[test]
+fn the_book_has_the_same_parts_in_the_same_order() {
+    let parts = parts_in_rules("| Name | Holds |");
+    assert_eq!(parts.len(), 7);
+    for path in ["rust/src/lib.rs", "tests/reference/src/book.rs"] {
+        assert_eq!(fields_of("Book", path), parts, "{path}");
+    }
+    assert_eq!(entries_with(&parts), 5);
+}
+
+#[test]
+fn server_rows_have_the_same_parts_in_the_same_order() {
+    let parts = parts_in_rules("| Buffer | What it has |");
+    assert_eq!(parts.len(), 3);
+    for path in [
+        "rust/src/forcerenew.rs",
+        "tests/reference/src/forcerenew.rs",
+    ] {
+        assert_eq!(fields_of("Servers", path), parts, "{path}");
+    }
+    assert_eq!(entries_with(&parts), 1);
 }

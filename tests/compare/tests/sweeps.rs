@@ -3,7 +3,7 @@
 //! place of option 82, each mark, each kind of a row and each room for a card. No number is drawn
 //! here.
 
-use compare::generate::messages;
+use compare::generate::{books, messages};
 use compare::runs::{lend, Implementation, Library, Reference};
 use reference::auth::sign;
 use reference::book::{goes_with, HEARD, NOT_HEARD};
@@ -471,17 +471,11 @@ fn signed_with(counter: u64) -> Vec<u8> {
     messages::signed(&[1, 2, 3, 4], 7, counter)
 }
 
-/// 0, each power of two and the counter below it, and the last.
-fn counters() -> impl Iterator<Item = u64> {
-    let about = |bit: u32| [(1_u64 << bit) - 1, 1 << bit];
-    (0..64).flat_map(about).chain([u64::MAX - 1, u64::MAX])
-}
-
 /// A row not heard takes each counter that has the right MAC. It is then heard, and takes just the
 /// counters above that one.
 #[test]
 fn each_counter_on_a_row_not_heard() {
-    for first in counters() {
+    for first in books::edge_counters() {
         let message = signed_with(first);
         let accepted = Accepted {
             row: 0,
@@ -494,7 +488,7 @@ fn each_counter_on_a_row_not_heard() {
         let mut heard = book_b_not_heard();
         assert_eq!(Library::check(&mut heard, &message), Ok(accepted));
         assert_eq!((heard.marks[0], heard.received[0]), (HEARD, first));
-        for second in counters() {
+        for second in books::edge_counters() {
             let number = answer(&heard, &signed_with(second)).err().unwrap_or(0);
             let expected = if second > first { 0 } else { 11 };
             assert_eq!(number, expected, "{second} behind {first}");

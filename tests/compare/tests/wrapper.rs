@@ -1,12 +1,12 @@
 //! The Rust wrapper beside the second implementation: what it makes of the numbers and places of
 //! the C interface.
 
-use compare::generate::{books, cards, messages};
+use compare::generate::{books, cards, forcerenew, messages, servers};
 use compare::harness::{cases, for_each_case, same, Difference};
 use compare::random::Random;
-use compare::runs::{any_id, lend};
+use compare::runs::{any_id, lend, lend_servers, Implementation, Library, Reference};
 use reference::refusal::number_of;
-use reference::Book;
+use reference::{Book, Servers};
 use rimemagpie::{Form, Refusal};
 
 /// The C interface has the whole number of cases; here a tenth is enough.
@@ -19,7 +19,7 @@ fn a_printed_refusal_says_number_and_fault() {
     let words = Refusal::Replay.to_string();
     assert_eq!(
         words,
-        "refused 11: the row is heard and the counter is not above its received one"
+        "refused 11: the row is heard and the counter is not above the one that it has"
     );
 }
 
@@ -71,6 +71,44 @@ fn a_printed_book_shows_no_key() {
         same("`{:#?}`", &format!("{book:#?}"), &format!("{other:#?}"))?;
         same("the store", &true, &format!("{book:?}").contains(&store))
     });
+}
+
+/// Server rows that differ in every byte of their nonces print the same text.
+#[test]
+fn printed_server_rows_show_no_nonce() {
+    for_each_case("wrapper print rows", some_cases(), |random| {
+        let rows = random.within(0..=5);
+        let mut servers = servers::with_rows(random, rows);
+        let mut other = servers.clone();
+        other.nonces.iter_mut().for_each(|byte| *byte ^= 0xff);
+        let nonces = format!("nonces: {} bytes", servers.nonces.len());
+        let (one, other) = (lend_servers(&mut servers), lend_servers(&mut other));
+        same("`{:?}`", &format!("{one:?}"), &format!("{other:?}"))?;
+        same("`{:#?}`", &format!("{one:#?}"), &format!("{other:#?}"))?;
+        same("the nonces", &true, &format!("{one:?}").contains(&nonces))
+    });
+}
+
+#[test]
+fn judgements_by_nonce() {
+    for_each_case("wrapper forcerenew", some_cases(), |random| {
+        let mut servers = servers::sound(random);
+        let row = servers::any_row(random, servers.rows());
+        let message = forcerenew::any(random, &servers, row);
+        if random.one_in(8) {
+            servers::spoil(random, &mut servers);
+        }
+        same_judgement(&servers, row, &message)
+    });
+}
+
+fn same_judgement(servers: &Servers, row: usize, message: &[u8]) -> Result<(), Difference> {
+    let mut servers_after = servers.clone();
+    let expected = Reference::forcerenew(&mut servers_after, row, message);
+    let mut lent = servers.clone();
+    let found = Library::forcerenew(&mut lent, row, message);
+    same("the judgement", &expected, &found)?;
+    same("the set of server rows", &servers_after, &lent)
 }
 
 fn same_key(book: &Book, message: &[u8]) -> Result<(), Difference> {

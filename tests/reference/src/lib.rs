@@ -1,10 +1,10 @@
 //! A second implementation of what the library does, to compare it with: plain, slow and obvious.
 //!
-//! It follows docs/RULES.md and the RFCs, never the proved code: RFC 1321 (MD5), RFC 2104 (HMAC), RFC
-//! 2131 and 2132 (the message and its options), RFC 3046 (option 82) and RFC 3118 (option 90), and
-//! for a recording RFC 791 (IPv4) and RFC 768 (UDP).
-//! It shares no line with the proved library, copies freely and looks at everything from the start
-//! again, since nobody waits for it.
+//! It follows docs/RULES.md and the RFCs, never the proved code: RFC 1321 (MD5), RFC 2104 (HMAC),
+//! RFC 2131 and 2132 (the message and its options), RFC 3046 (option 82), RFC 3118 (option 90) and
+//! RFC 6704 (FORCERENEW by nonce), and for a recording RFC 791 (IPv4) and RFC 768 (UDP). It shares
+//! no line with the proved library, copies freely and looks at everything from the start again,
+//! since nobody waits for it.
 
 #![forbid(unsafe_code)]
 
@@ -13,9 +13,11 @@ pub mod book;
 pub mod capture;
 pub mod card;
 pub mod examples;
+pub mod forcerenew;
 pub mod hmac;
 pub mod md5;
 pub mod message;
+pub mod nonce_examples;
 pub mod program;
 pub mod refusal;
 pub mod relay;
@@ -23,6 +25,7 @@ pub mod relay;
 pub use auth::{check, key_of_message, seal, Accepted};
 pub use book::Book;
 pub use card::{card_move, card_read, card_write, Form};
+pub use forcerenew::{forcerenew, Judged, Servers};
 pub use hmac::hmac;
 pub use md5::digest;
 pub use refusal::Refusal;

@@ -1,5 +1,5 @@
-//! The DHCPv4 message: its fixed part, its options, numbers 2 to 9, and the image that the MAC
-//! covers (docs/RULES.md, 'The message' and 'The covered image').
+//! The DHCPv4 message: its fixed part, its options, its type, numbers 2 to 9, and the image that the
+//! MAC covers (docs/RULES.md, 'The message' and 'The covered image').
 //!
 //! Fixed part (RFC 2131), by offset: hops 3; giaddr 24..28; cookie 236..240; options from 240.
 //!
@@ -20,6 +20,7 @@ pub const COOKIE: [u8; 4] = [99, 130, 83, 99];
 pub const OPTIONS_AT: usize = 240;
 
 pub const PAD: u8 = 0;
+pub const MESSAGE_TYPE: u8 = 53;
 pub const RELAY_AGENT: u8 = 82;
 pub const AUTHENTICATION: u8 = 90;
 pub const END: u8 = 255;
@@ -148,6 +149,18 @@ pub fn option_at(message: &[u8], at: usize) -> Option<OptionAt> {
     Some(option)
 }
 
+/// What the message's type is, by RFC 2132, section 9.6: the byte in its one option 53. None where
+/// there is no option 53, more than one, or one of another length than 1.
+pub fn message_type(message: &[u8]) -> Option<u8> {
+    let [only] = of_code(message, &places(message)?, MESSAGE_TYPE)[..] else {
+        return None;
+    };
+    match message[only.body()] {
+        [kind] => Some(kind),
+        _ => None,
+    }
+}
+
 /// The options of a code among what stands at these places.
 fn of_code(message: &[u8], places: &[usize], code: u8) -> Vec<OptionAt> {
     places
@@ -239,6 +252,22 @@ mod tests {
         assert_eq!(places(&message_with(&[53, 1, 255])), None);
         assert_eq!(places(&message_with(&[53, 2, 255])), None);
         assert_eq!(places(&message_with(&[0, 53])), None);
+    }
+
+    /// The type is that of the one option 53 before End, which has a body of one byte.
+    #[test]
+    fn message_types() {
+        let given = |options: &[u8]| message_type(&message_with(options));
+        assert_eq!(given(&[53, 1, 5, 255]), Some(5));
+        assert_eq!(given(&[0, 82, 3, 53, 1, 5, 53, 1, 9, 255]), Some(9));
+        assert_eq!(given(&[53, 1, 0, 255, 53, 1, 5]), Some(0));
+        assert_eq!(given(&[255, 53, 1, 5]), None);
+        assert_eq!(given(&[12, 3, 53, 1, 5, 255]), None);
+        assert_eq!(given(&[53, 0, 255]), None);
+        assert_eq!(given(&[53, 2, 5, 5, 255]), None);
+        assert_eq!(given(&[53, 1, 5, 53, 1, 5, 255]), None);
+        assert_eq!(given(&[53, 1, 5, 53, 0, 255]), None);
+        assert_eq!(given(&[53, 1, 5]), None);
     }
 
     /// Option 82 is taken out before option 90, behind it, and between pads, and of option 90 only

@@ -1,10 +1,12 @@
 //! The refusals, each with the number it gives back (docs/RULES.md, 'Numbers').
 
-/// Why an entry refuses. The lowest number that applies is the one given.
+/// Why an entry refuses. The lowest number that applies is the one given; `forcerenew` goes by an
+/// order of its own.
 #[derive(Clone, Copy, Debug, PartialEq, Eq)]
 #[repr(u8)]
 pub enum Refusal {
-    /// The book is not sound; for reading a card, the lent sizes are not.
+    /// The book is not sound; for reading a card, the lent sizes are not; for FORCERENEW by nonce,
+    /// the server rows are not.
     UnsoundBook = 1,
     /// The message is below 241 or above 1,472 bytes.
     MessageSize = 2,
@@ -22,9 +24,9 @@ pub enum Refusal {
     OtherAuthentication = 8,
     /// Option 90 is a request for authentication, without id and MAC.
     RequestForm = 9,
-    /// The secret id has no row.
+    /// The secret id has no row; for FORCERENEW by nonce, there is no such server row.
     UnknownSecret = 10,
-    /// The row is heard and the counter is not above its received one.
+    /// The row is heard and the counter is not above the one that it has.
     Replay = 11,
     /// The MAC differs.
     WrongMac = 12,
@@ -40,6 +42,12 @@ pub enum Refusal {
     NoRoomForRows = 17,
     /// The old form of a card is wanted and a row is not heard.
     RowNotHeard = 18,
+    /// Option 90 has another length than 28, or doesn't begin with 3, 1, 0.
+    NotByNonce = 19,
+    /// Option 90's type doesn't go with option 53.
+    WrongType = 20,
+    /// A FORCERENEW came, and the server row has no nonce yet.
+    NoNonce = 21,
 }
 
 impl Refusal {

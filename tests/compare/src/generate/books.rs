@@ -137,6 +137,12 @@ pub fn counter(random: &mut Random) -> u64 {
     }
 }
 
+/// 0, each power of two and the counter below it, and the last.
+pub fn edge_counters() -> impl Iterator<Item = u64> {
+    let about = |bit: u32| [(1_u64 << bit) - 1, 1 << bit];
+    (0..64).flat_map(about).chain([u64::MAX - 1, u64::MAX])
+}
+
 /// Each way in which a book is not sound.
 #[derive(Clone, Copy, Debug, PartialEq, Eq)]
 pub enum Fault {
@@ -216,7 +222,7 @@ pub fn spoil_by(random: &mut Random, book: &mut Book, fault: Fault) {
     match fault {
         Fault::IdsSize => resize(random, &mut book.ids),
         Fault::KeyLengthsSize => resize(random, &mut book.lengths),
-        Fault::KeyStoreSize => resize_store(random, &mut book.store),
+        Fault::KeyStoreSize => resize_slots(random, &mut book.store, SLOT),
         Fault::MarksSize => resize(random, &mut book.marks),
         Fault::ReceivedSize => resize(random, &mut book.received),
         Fault::SentSize => resize(random, &mut book.sent),
@@ -273,20 +279,21 @@ pub fn some_row(random: &mut Random, rows: usize) -> usize {
 }
 
 /// Gives a part another size, mostly by one row.
-fn resize<T: Copy + Default>(random: &mut Random, part: &mut Vec<T>) {
+pub fn resize<T: Copy + Default>(random: &mut Random, part: &mut Vec<T>) {
     let n = part.len();
     let sizes = [n + 1, n + 1, n.saturating_sub(1), 0, n + 64];
     let size = pick_other(random, &sizes, n);
     part.resize(size, T::default());
 }
 
-/// Gives the key store another size: a byte or a slot more or less, or a byte for each row.
-fn resize_store(random: &mut Random, store: &mut Vec<u8>) {
-    let n = store.len();
-    let less = [n.saturating_sub(1), n.saturating_sub(SLOT)];
-    let sizes = [n + 1, n + SLOT, less[0], less[1], n / SLOT, 0];
+/// Gives a part with a slot of bytes for each row another size: a byte or a slot more or less, or a
+/// byte for each row.
+pub fn resize_slots(random: &mut Random, slots: &mut Vec<u8>, slot: usize) {
+    let n = slots.len();
+    let less = [n.saturating_sub(1), n.saturating_sub(slot)];
+    let sizes = [n + 1, n + slot, less[0], less[1], n / slot, 0];
     let size = pick_other(random, &sizes, n);
-    store.resize(size, 0);
+    slots.resize(size, 0);
 }
 
 fn pick_other(random: &mut Random, sizes: &[usize], not: usize) -> usize {

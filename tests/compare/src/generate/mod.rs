@@ -1,10 +1,13 @@
-//! Seeded inputs: key books, messages, cards, frames and captures, sound and spoiled.
+//! Seeded inputs: key books, server rows, messages, cards, frames and captures, sound and spoiled.
 
 pub mod books;
 pub mod captures;
 pub mod cards;
+pub mod drafts;
+pub mod forcerenew;
 pub mod frames;
 pub mod messages;
 pub mod relays;
+pub mod servers;
 #[cfg(test)]
 mod situations;

@@ -13,8 +13,10 @@ use Rattle.dhcp_message.proofs.Seals.{full-form}
 use Rattle.key_book.specs.Book.{Book, bookOf, sound, rowOf, keyOf}
 use Rattle.key_book.proofs.Answers.{row-at, row-nothing}
 use Rattle.delayed_auth.specs.Admit.{admittedSaid}
-use Rattle.delayed_auth.specs.Check.{sameBytes, newTo}
-use Rattle.delayed_auth.proofs.Macs.{macIn, mac-part, mac-length, mac-compared, same-equal, same-differ}
+use Rattle.octets.specs.Bytes.{sameBytes}
+use Rattle.octets.proofs.Comparing.{same-equal, same-differ}
+use Rattle.delayed_auth.specs.Check.{newTo}
+use Rattle.delayed_auth.proofs.Macs.{macIn, mac-compared}
 use Rattle.delayed_auth.proofs.Admits.{full-passed, form-said, RowFacts, row-facts}
 use Rattle.delayed_auth.proofs.Judging.{check-unknown, check-replay, check-wrong, check-accepts, case-check}
 use borrow.Author.Needs.{needs}
@@ -54,16 +56,16 @@ new : (c : tie.After-is-new)
     → let f = found c in newTo (book (start f)) (f .found .given .0 .0) (start f .args .auth .counter) ≡ c .is-new .result
 new c = sym (c .is-new .ensures)
 
-abbrev counted : tie.After-same-mac → tie.Else1
-counted c = c .before .before .before .before .before .before
+abbrev counted : tie.After-same → tie.Else1
+counted c = c .before .before .before .before .before .before .before
 
-compared : (c : tie.After-same-mac)
+compared : (c : tie.After-same)
     → let f = found (counted c .before) in
     let m = start f .args .message .now in
-    sameBytes (macIn m (start f .args .auth)) (hmac (keyOf (book (start f)) (f .found .given .0 .0)) (imageOf m)) ≡ c .same-mac .result
+    sameBytes (macIn m (start f .args .auth)) (hmac (keyOf (book (start f)) (f .found .given .0 .0)) (imageOf m)) ≡ c .same .result
 compared c =
-    let m = c .before .before .before .before in
-    mac-compared _ _ _ _ _ (start (found (counted c .before)) .args .auth) (c .same-mac .ensures) (m .mac-of .ensures) (m .before .key-of .ensures .0)
+    let m = c .before .before .before .before .before in
+    mac-compared _ _ _ _ _ (start (found (counted c .before)) .args .auth) (c .same .ensures) (m .mac-of .ensures) (m .before .key-of .ensures .0)
 
 -- ---- the needs
 
@@ -97,13 +99,8 @@ add-from c = let f = form (start (found (c .before .before .before .before))) in
 add-to : tie.Need-add-to
 add-to c = let f = form (start (found (c .before .before .before .before .before))) in omega (arith, f .inside, f .most)
 
-part-same-mac-end : tie.Need-part-same-mac-end
-part-same-mac-end c = omega (arith, form (start (found (c .before .before .before .before .before))) .inside)
-
-same-mac-requires : tie.Need-same-mac-requires
-same-mac-requires c κs =
-    let s = start (found (c .before .before .before .before .before .before)) in
-    ap length (mac-part _ (s .args .auth)) ∙ mac-length _ _ (passed s .1)
+part-same-end : tie.Need-part-same-end
+part-same-end c = omega (arith, form (start (found (c .before .before .before .before .before))) .inside)
 
 returns-3 : tie.Need-returns-3
 returns-3 c =
@@ -138,7 +135,8 @@ judged-full-spec =
     add-to
     (search needs)
     (search needs)
-    part-same-mac-end
-    same-mac-requires
+    part-same-end
+    (search needs)
+    (search needs)
     returns-3
     returns-4)

@@ -9,23 +9,23 @@ returns : tie.Need-returns
 returns c =
     let read = c .before in
     let a = read .before .before .before .before .before .before .args in
-    form-full (now (a .message)) (a .p) _ (read .before .before .is-delayed .ensures) _ _ (search needs) (search needs)
+    form-full (now (a .message)) (a .p) _ (read .before .before .has-method .ensures) _ _ (search needs) (search needs)
     (read .big .ensures .0) (c .big2 .ensures .0)
 
 returns-2 : tie.Need-returns-2
 returns-2 c =
     let a = c .before .before .before .before .before .args in
-    form-other (now (a .message)) (a .p) _ (c .before .is-delayed .ensures) (search needs) (search needs)
+    form-other (now (a .message)) (a .p) _ (c .before .has-method .ensures) (search needs) (search needs)
 
 returns-3 : tie.Need-returns-3
 returns-3 c =
     let a = c .before .before .before .before .before .before .args in
-    form-request (now (a .message)) (a .p) _ (c .before .is-delayed2 .ensures) (search needs) (search needs)
+    form-request (now (a .message)) (a .p) _ (c .before .has-method2 .ensures) (search needs) (search needs)
 
 returns-4 : tie.Need-returns-4
 returns-4 c =
     let a = c .before .before .before .before .before .before .args in
-    form-other-request (now (a .message)) (a .p) _ (c .before .is-delayed2 .ensures) (search needs) (search needs)
+    form-other-request (now (a .message)) (a .p) _ (c .before .has-method2 .ensures) (search needs) (search needs)
 
 returns-5 : tie.Need-returns-5
 returns-5 c =

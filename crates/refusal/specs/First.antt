@@ -1,0 +1,20 @@
+-- What it is to give the first refusal that applies in an order of the entry's own (docs/RULES.md, 'FORCERENEW by nonce'), where its numbers don't rise.
+use Prim.Native.Nat.{ℕ, _<_}
+use mathlib.Core.Path.{_≡_}
+use mathlib.Core.Logic.{_↔_}
+use mathlib.Core.List.{List}
+use mathlib.Core.Option.{some}
+use lib.ListN.{getElem?}
+use Rattle.refusal.specs.declared.Refusal.{Refusal}
+use Rattle.refusal.specs.Number.{numberOf, done}
+
+-- nothing before place i of the order applies
+abbrev pub NothingBefore : List Refusal → (Refusal → Type 0) → ℕ → Type 0
+NothingBefore order AppliesHere i = (j : ℕ) (q : Refusal) → j < i → getElem? order j ≡ some q → AppliesHere q → ⊥
+
+-- On one input: what is given is the number of the refusal at some place of the order that applies with nothing before it; 0 exactly where nothing applies;
+-- and what applies has a place.
+pub record First (order : List Refusal) (AppliesHere : Refusal → Type 0) (number : ℕ) : Type 0 where
+  pub refused : (i : ℕ) (r : Refusal) → getElem? order i ≡ some r → (number ≡ numberOf r) ↔ (AppliesHere r × NothingBefore order AppliesHere i)
+  pub none-applies : (number ≡ done) ↔ ((r : Refusal) → AppliesHere r → ⊥)
+  pub placed : (r : Refusal) → AppliesHere r → (i : ℕ) × (getElem? order i ≡ some r)
