@@ -29,7 +29,7 @@
 #define BATCH_BYTES 20000
 #define MOST_WORKS 8
 
-#define ROWS_MOST 64
+#define ROWS_MOST 256
 #define SLOT 64
 #define MESSAGE_LEAST 277
 #define MESSAGE_MOST 1472
@@ -106,7 +106,7 @@ static void measure(const struct work *works, size_t count, double *medians)
 /* The names over the columns of times, and a column for each ratio: of the first to each of the others. */
 static void print_head(const char *const *names, size_t count)
 {
-    printf("%-14s %12s", "", "");
+    printf("%-15s %12s", "", "");
     for (size_t i = 0; i < count; i++)
         printf("  %13s", names[i]);
     for (size_t i = 1; i < count; i++)
@@ -120,7 +120,7 @@ static void compare(const char *what, size_t bytes, const struct work *works, si
     double ns[MOST_WORKS];
 
     measure(works, count, ns);
-    printf("%-14s %6zu bytes", what, bytes);
+    printf("%-15s %6zu bytes", what, bytes);
     for (size_t i = 0; i < count; i++)
         printf("  %10.1f ns", ns[i]);
     for (size_t i = 1; i < count; i++)
@@ -547,9 +547,12 @@ static void compare_many_rows(void)
 {
     static struct lot lot;
 
-    make_lot(&lot, ROWS_MOST, 300, BYTES_AFTER_END);
+    make_lot(&lot, 64, 300, BYTES_AFTER_END);
     compare_with_openssl("check, 64 rows", &lot, checks_of(&lot));
     compare_with_openssl("seal, 64 rows", &lot, seals_of(&lot));
+    make_lot(&lot, ROWS_MOST, 300, BYTES_AFTER_END);
+    compare_with_openssl("check, 256 rows", &lot, checks_of(&lot));
+    compare_with_openssl("seal, 256 rows", &lot, seals_of(&lot));
     lot.book.marks[0] = RIMEMAGPIE_NOT_HEARD; /* so that soundness looks at the received counters too */
     compare_with_openssl("one not heard", &lot, checks_of(&lot));
 }
@@ -645,7 +648,7 @@ static void growth_with_length(const char *what, enum filling filling)
 
 static void growth_with_rows(void)
 {
-    static const size_t rows[] = {1, 2, 4, 8, 16, 32, 64};
+    static const size_t rows[] = {1, 4, 16, 32, 64, 128, ROWS_MOST};
     enum { COUNT = sizeof rows / sizeof rows[0] };
     static struct lot lots[COUNT];
     struct work works[COUNT];
@@ -717,7 +720,7 @@ static void compare_all_macs(void)
     printf("\nHMAC-MD5, a whole check, a whole seal and a whole judgement of a FORCERENEW beside OpenSSL's HMAC-MD5 of the same\n"
            "bytes, which judges and stores nothing: low-level, by hand from its MD5 calls over the key pads; the same with a\n"
            "plain loop over the inner pad's bytes; and its one-shot HMAC(). One row is in use, where no other number is given;\n"
-           "'one not heard' has 64 rows, one of them not heard:\n");
+           "'one not heard' has 256 rows, one of them not heard:\n");
     print_head(names, 4);
     for (size_t i = 0; i < sizeof sizes / sizeof sizes[0]; i++)
         compare_digests("HMAC-MD5", sizes[i], ways, 4);

@@ -7,13 +7,14 @@
  * is lent.
  *
  * What is lent. A pointer and the length after it name a buffer of that many items (bytes, 32-bit or 64-bit numbers, not
- * the size in bytes); a pointer without a length is the place of a result. The caller sees to it that
+ * the size in bytes); a pointer without a length is the place of a result, or a part of a card reader's state, of which
+ * `tail` is 88 bytes. The caller sees to it that
  *
  *   - every pointer is valid for its whole buffer and aligned for its type;
  *   - no pointer is null, also where the length is 0. An empty C++ vector's data() may be null: lend the address of any
  *     variable of that type in its place, with the length 0;
- *   - in one call nothing overlaps what is lent for writing: no two places of results, no place and a buffer, no two
- *     buffers of which one is not `const`;
+ *   - in one call nothing overlaps what is lent for writing: no two places of results or parts of a state, no
+ *     place and a buffer, no two buffers of which one is not `const`;
  *   - nobody else (another thread, a signal handler) writes the book, the server rows or anything else that is lent
  *     during the call, or reads what the call writes.
  *
@@ -37,14 +38,14 @@
  * with its received counter (where that is 0 already, the mark alone) lets all earlier messages under that secret in once
  * more.
  *
- * The book is sound when the sizes are so, rows is at most n and at most 64, the first `rows` ids ascend strictly, their
+ * The book is sound when the sizes are so, rows is at most n and at most 256, the first `rows` ids ascend strictly, their
  * key lengths are 1 to 64, their marks are 0 or 1, and the received counter of each of them that is not heard is 0. Any
  * other book may be lent too: it is refused with 1. Slot bytes past a key affect no answer. Nor does any row from `rows`
  * on: such a row's mark may be any byte.
  *
  * The card has two forms. The old one has no marks, and every row on it counts as heard; the new one has a mark for each
  * row. A card of either form is read, and the new one is written. rimemagpie_card_to_old and rimemagpie_card_to_new make
- * one of the other.
+ * one of the other. A card that isn't in memory whole is read in pieces: see struct rimemagpie_card_reader.
  *
  * The server rows, which rimemagpie_forcerenew alone is lent. They are no part of the book or of its card. Three buffers,
  * each for the same n rows, a row for each server that may order a renewal. n may be any, 0 and above 1,024 too, and all n
@@ -62,8 +63,9 @@
  * Store all three after every judgement that returns 0: they are what keeps an old FORCERENEW out. A mark that is set back
  * from 2 to 1 lets every earlier FORCERENEW under that nonce in once more.
  *
- * What is given back. Each function returns one of the numbers below: rimemagpie_forcerenew the first that applies in the
- * order that its comment lists, every other function the lowest that applies. Any bytes may be lent as a message or a card.
+ * What is given back. Each function but rimemagpie_card_begin, which refuses nothing, returns one of the numbers below:
+ * rimemagpie_forcerenew the first that applies in the order that its comment lists, every other function the lowest that
+ * applies. Any bytes may be lent as a message or a card.
  * A refusal (any number but 0) changes nothing that was lent and no place of a result, with one exception:
  * rimemagpie_digest and rimemagpie_hmac write 16 zero bytes with 14.
  */
@@ -80,7 +82,7 @@ extern "C" {
 /* The numbers given back, by the names of crates/refusal. */
 enum rimemagpie_number {
     RIMEMAGPIE_DONE = 0,                    /* accepted or done */
-    RIMEMAGPIE_UNSOUND_BOOK = 1,            /* the book is not sound (reading a card: sizes; by nonce: server rows) */
+    RIMEMAGPIE_UNSOUND_BOOK = 1,            /* the book is not sound (card: sizes, reader; by nonce: server rows) */
     RIMEMAGPIE_MESSAGE_SIZE = 2,            /* the message is below 241 or above 1,472 bytes */
     RIMEMAGPIE_WRONG_COOKIE = 3,            /* the cookie differs */
     RIMEMAGPIE_BROKEN_OPTIONS = 4,          /* an option passes the message's end, or there is no End */
@@ -210,8 +212,8 @@ uint8_t rimemagpie_card_read(const uint8_t *card, size_t card_len,
                              uint64_t *rows);
 
 /*
- * Writes a book's card, in the new form. Its size is 6 bytes and, for each row, 25 and the key's; 5,702 bytes are always
- * enough.
+ * Writes a book's card, in the new form. Its size is 6 bytes and, for each row, 25 and the key's; 22,790 bytes are
+ * always enough.
  *
  *   0   the first `*size` bytes of `card` are the card; later ones are unchanged
  *   1   the book is not sound; nothing changed, not `*size` either
@@ -229,7 +231,7 @@ uint8_t rimemagpie_card_write(const uint32_t *ids, size_t ids_len,
 
 /*
  * Writes a card's rows as a card of the old form. A card that is in the old form already is copied; a card of no rows is
- * in both. The old form's size is 6 bytes and, for each row, 24 and the key's; 5,638 bytes are always enough. It has no
+ * in both. The old form's size is 6 bytes and, for each row, 24 and the key's; 22,534 bytes are always enough. It has no
  * place for a mark, so a row that is not heard can't be on it.
  *
  *   0   the first `*size` bytes of `room` are the card in the old form; later ones are unchanged
@@ -244,7 +246,7 @@ uint8_t rimemagpie_card_to_old(const uint8_t *card, size_t card_len,
 /*
  * Writes a card's rows as a card of the new form, in which each row has its mark. From the old form all of them are heard;
  * a card that is in the new form already is copied. The new form's size is 6 bytes and, for each row, 25 and the key's: a
- * byte a row more than in the old form; 5,702 bytes are always enough.
+ * byte a row more than in the old form; 22,790 bytes are always enough.
  *
  *   0   the first `*size` bytes of `room` are the card in the new form; later ones are unchanged
  *   15  the card is malformed; nothing changed, not `*size` either
@@ -292,6 +294,169 @@ uint8_t rimemagpie_forcerenew(uint8_t *nonces, size_t nonces_len,
                               size_t row,
                               const uint8_t *message, size_t message_len,
                               uint8_t *kind, uint64_t *counter);
+
+/*
+ * Reading a card in pieces, as it arrives: a fresh state, then each piece of the card in its order, then the end. Any
+ * cutting of a card, into single bytes too and with empty pieces among them, gives the answer and the book that
+ * rimemagpie_card_read gives on the whole card.
+ *
+ * The state. It is the caller's, in parts; struct rimemagpie_card_reader has them all, and three inline functions pass them
+ * on. rimemagpie_card_begin sets it, rimemagpie_card_feed reads and changes it, rimemagpie_card_finish reads it:
+ *
+ *   tail   88 bytes  what is left of a record that a piece cut: the first `kept` bytes. After each call that returns 0 the
+ *                    others are 0. The bytes may be a key's: treat the state as you treat the book
+ *   kept   a number  bytes left, at most 88
+ *   read   a number  rows read so far, at most 256
+ *   low    a number  the least id that the next row may have; from 2^32 on none may
+ *   form   a byte    0 no row was read yet, 1 rows of the old form, 3 rows of the new one: the kind of their records
+ *   phase  a byte    0 records may follow, 1 the close was read, 2 there was a fault. After 1 and 2 no bytes are kept
+ *
+ * The spare rows. Six buffers like a book's, beside the book and of the same sizes as the book's, into which the pieces are
+ * read. From the first piece to the end they serve this reading alone: lend the same ones to every call, and let nobody
+ * write them in between, or what is copied to the book at the end is not the card. What they hold before the first piece
+ * may be anything. The book is lent at the end alone, and until then may be used as ever.
+ *
+ * Any state may be lent, also one that was made up. One whose `kept` or `read` is past its limit, or whose `form` or
+ * `phase` is another number, is refused with 1. Any other one is believed: a tail that holds whole records has them read
+ * with the next piece, an empty one too, and rows are set behind the first `read`. So the end can't tell whether the rows
+ * before were read from a card: from a made-up state of phase 1 rimemagpie_card_finish returns 0 and copies whatever stands
+ * in the spare rows, and the book need then not be sound. The same comes of spare rows that were written in between.
+ */
+
+/* What is known of the form of the rows: the kind of their records. */
+enum rimemagpie_card_form {
+    RIMEMAGPIE_CARD_NO_ROW = 0, /* no row was read yet */
+    RIMEMAGPIE_CARD_OLD = 1,    /* rows of the old form */
+    RIMEMAGPIE_CARD_NEW = 3     /* rows of the new form */
+};
+
+/* Where reading stands, by the names of crates/card_pieces. */
+enum rimemagpie_card_phase {
+    RIMEMAGPIE_CARD_READING = 0, /* records may follow */
+    RIMEMAGPIE_CARD_CLOSED = 1,  /* the close was read, and nothing may follow */
+    RIMEMAGPIE_CARD_FAULT = 2    /* there was a fault: rimemagpie_card_finish will return 15 */
+};
+
+/* The most bytes that are left of a record: one less than the largest record has. */
+enum rimemagpie_card_tail {
+    RIMEMAGPIE_CARD_TAIL_MOST = 88
+};
+
+/*
+ * A fresh state: nothing kept, nothing read, any id may follow, phase 0.
+ */
+void rimemagpie_card_begin(uint8_t tail[RIMEMAGPIE_CARD_TAIL_MOST],
+                           uint64_t *kept, uint64_t *read, uint64_t *low,
+                           uint8_t *form, uint8_t *phase);
+
+/*
+ * Reads a piece of a card, of any length, 0 too, into the spare rows.
+ *
+ *   0   the piece was taken. The state is the one behind it, and each row that got whole, while records may follow, stands
+ *       in the spare rows as rimemagpie_card_read would have set it, if there is room for it; every other spare byte and
+ *       number is unchanged. 0 says nothing about the card: a fault makes the phase 2 and is told at the end. From then on
+ *       no piece sets a row
+ *   1   the spare rows' sizes don't belong together, there is room for more than 1,024 rows, a count of the state is past
+ *       its limit, or its form or phase is none; nothing changed, neither state nor spare rows
+ *
+ * A length field that no record has is a fault as soon as both its bytes are there, and any other fault when its record is
+ * whole; so the state, too, is the same however the card is cut.
+ */
+uint8_t rimemagpie_card_feed(uint8_t tail[RIMEMAGPIE_CARD_TAIL_MOST],
+                             uint64_t *kept, uint64_t *read, uint64_t *low,
+                             uint8_t *form, uint8_t *phase,
+                             const uint8_t *piece, size_t piece_len,
+                             uint32_t *ids, size_t ids_len,
+                             uint8_t *lengths, size_t lengths_len,
+                             uint8_t *store, size_t store_len,
+                             uint8_t *marks, size_t marks_len,
+                             uint64_t *received, size_t received_len,
+                             uint64_t *sent, size_t sent_len);
+
+/*
+ * The end of a card read in pieces: copies the rows over to the book. It reads nothing more, writes no spare row, and takes
+ * the state's numbers as they are: bytes that are still kept are 15, whatever they hold.
+ *
+ *   0   the first `*rows` rows of all six buffers of the book are now the spare ones: those of the card, marks and counters
+ *       too, each slot filled with zeros after its key; further rows of the book are unchanged
+ *   1   the sizes of the spare rows or of the book don't belong together, the two have not room for the same number of
+ *       rows, or for more than 1,024, a count of the state is past its limit, or its form or phase is none
+ *   15  the card is malformed, or not all of it was fed
+ *   17  the card has more rows than there is room for
+ *
+ * Refused, it changes nothing, not `*rows` either, and the book is as it was. After 15 and 17 the spare rows hold the good
+ * rows before the fault, as many as fit.
+ */
+uint8_t rimemagpie_card_finish(const uint8_t tail[RIMEMAGPIE_CARD_TAIL_MOST],
+                               uint64_t kept, uint64_t read, uint64_t low,
+                               uint8_t form, uint8_t phase,
+                               const uint32_t *spare_ids, size_t spare_ids_len,
+                               const uint8_t *spare_lengths, size_t spare_lengths_len,
+                               const uint8_t *spare_store, size_t spare_store_len,
+                               const uint8_t *spare_marks, size_t spare_marks_len,
+                               const uint64_t *spare_received, size_t spare_received_len,
+                               const uint64_t *spare_sent, size_t spare_sent_len,
+                               uint32_t *ids, size_t ids_len,
+                               uint8_t *lengths, size_t lengths_len,
+                               uint8_t *store, size_t store_len,
+                               uint8_t *marks, size_t marks_len,
+                               uint64_t *received, size_t received_len,
+                               uint64_t *sent, size_t sent_len,
+                               uint64_t *rows);
+
+/* The state of a reader, for the three functions below, each of which is the one above with the state's parts. */
+struct rimemagpie_card_reader {
+    uint8_t tail[RIMEMAGPIE_CARD_TAIL_MOST];
+    uint64_t kept;
+    uint64_t read;
+    uint64_t low;
+    uint8_t form;
+    uint8_t phase;
+};
+
+/* rimemagpie_card_begin. */
+static inline void rimemagpie_card_reader_begin(struct rimemagpie_card_reader *reader)
+{
+    rimemagpie_card_begin(reader->tail, &reader->kept, &reader->read, &reader->low, &reader->form, &reader->phase);
+}
+
+/* rimemagpie_card_feed. */
+static inline uint8_t rimemagpie_card_reader_feed(struct rimemagpie_card_reader *reader,
+                                                  const uint8_t *piece, size_t piece_len,
+                                                  uint32_t *ids, size_t ids_len,
+                                                  uint8_t *lengths, size_t lengths_len,
+                                                  uint8_t *store, size_t store_len,
+                                                  uint8_t *marks, size_t marks_len,
+                                                  uint64_t *received, size_t received_len,
+                                                  uint64_t *sent, size_t sent_len)
+{
+    return rimemagpie_card_feed(reader->tail, &reader->kept, &reader->read, &reader->low, &reader->form, &reader->phase,
+                                piece, piece_len, ids, ids_len, lengths, lengths_len, store, store_len, marks, marks_len,
+                                received, received_len, sent, sent_len);
+}
+
+/* rimemagpie_card_finish. */
+static inline uint8_t rimemagpie_card_reader_finish(const struct rimemagpie_card_reader *reader,
+                                                    const uint32_t *spare_ids, size_t spare_ids_len,
+                                                    const uint8_t *spare_lengths, size_t spare_lengths_len,
+                                                    const uint8_t *spare_store, size_t spare_store_len,
+                                                    const uint8_t *spare_marks, size_t spare_marks_len,
+                                                    const uint64_t *spare_received, size_t spare_received_len,
+                                                    const uint64_t *spare_sent, size_t spare_sent_len,
+                                                    uint32_t *ids, size_t ids_len,
+                                                    uint8_t *lengths, size_t lengths_len,
+                                                    uint8_t *store, size_t store_len,
+                                                    uint8_t *marks, size_t marks_len,
+                                                    uint64_t *received, size_t received_len,
+                                                    uint64_t *sent, size_t sent_len,
+                                                    uint64_t *rows)
+{
+    return rimemagpie_card_finish(reader->tail, reader->kept, reader->read, reader->low, reader->form, reader->phase,
+                                  spare_ids, spare_ids_len, spare_lengths, spare_lengths_len, spare_store, spare_store_len,
+                                  spare_marks, spare_marks_len, spare_received, spare_received_len, spare_sent,
+                                  spare_sent_len, ids, ids_len, lengths, lengths_len, store, store_len, marks, marks_len,
+                                  received, received_len, sent, sent_len, rows);
+}
 
 #ifdef __cplusplus
 }

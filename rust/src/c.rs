@@ -8,6 +8,8 @@
 
 #![allow(unsafe_code)]
 
+use crate::card_pieces::TAIL_MOST;
+
 /// The declarations of include/rimemagpie.h.
 mod header {
     extern "C" {
@@ -146,6 +148,72 @@ mod header {
             message_len: usize,
             kind: *mut u8,
             counter: *mut u64,
+        ) -> u8;
+
+        pub fn rimemagpie_card_begin(
+            tail: *mut u8,
+            kept: *mut u64,
+            read: *mut u64,
+            low: *mut u64,
+            form: *mut u8,
+            phase: *mut u8,
+        );
+
+        pub fn rimemagpie_card_feed(
+            tail: *mut u8,
+            kept: *mut u64,
+            read: *mut u64,
+            low: *mut u64,
+            form: *mut u8,
+            phase: *mut u8,
+            piece: *const u8,
+            piece_len: usize,
+            ids: *mut u32,
+            ids_len: usize,
+            lengths: *mut u8,
+            lengths_len: usize,
+            store: *mut u8,
+            store_len: usize,
+            marks: *mut u8,
+            marks_len: usize,
+            received: *mut u64,
+            received_len: usize,
+            sent: *mut u64,
+            sent_len: usize,
+        ) -> u8;
+
+        pub fn rimemagpie_card_finish(
+            tail: *const u8,
+            kept: u64,
+            read: u64,
+            low: u64,
+            form: u8,
+            phase: u8,
+            spare_ids: *const u32,
+            spare_ids_len: usize,
+            spare_lengths: *const u8,
+            spare_lengths_len: usize,
+            spare_store: *const u8,
+            spare_store_len: usize,
+            spare_marks: *const u8,
+            spare_marks_len: usize,
+            spare_received: *const u64,
+            spare_received_len: usize,
+            spare_sent: *const u64,
+            spare_sent_len: usize,
+            ids: *mut u32,
+            ids_len: usize,
+            lengths: *mut u8,
+            lengths_len: usize,
+            store: *mut u8,
+            store_len: usize,
+            marks: *mut u8,
+            marks_len: usize,
+            received: *mut u64,
+            received_len: usize,
+            sent: *mut u64,
+            sent_len: usize,
+            rows: *mut u64,
         ) -> u8;
     }
 }
@@ -396,6 +464,121 @@ pub fn forcerenew(
             message.len(),
             kind,
             counter,
+        )
+    }
+}
+
+/// `rimemagpie_card_begin`.
+pub fn card_begin(
+    tail: &mut [u8; TAIL_MOST],
+    kept: &mut u64,
+    read: &mut u64,
+    low: &mut u64,
+    form: &mut u8,
+    phase: &mut u8,
+) {
+    unsafe { header::rimemagpie_card_begin(tail.as_mut_ptr(), kept, read, low, form, phase) }
+}
+
+/// `rimemagpie_card_feed`.
+#[allow(clippy::too_many_arguments)]
+pub fn card_feed(
+    tail: &mut [u8; TAIL_MOST],
+    kept: &mut u64,
+    read: &mut u64,
+    low: &mut u64,
+    form: &mut u8,
+    phase: &mut u8,
+    piece: &[u8],
+    ids: &mut [u32],
+    lengths: &mut [u8],
+    store: &mut [u8],
+    marks: &mut [u8],
+    received: &mut [u64],
+    sent: &mut [u64],
+) -> u8 {
+    unsafe {
+        header::rimemagpie_card_feed(
+            tail.as_mut_ptr(),
+            kept,
+            read,
+            low,
+            form,
+            phase,
+            piece.as_ptr(),
+            piece.len(),
+            ids.as_mut_ptr(),
+            ids.len(),
+            lengths.as_mut_ptr(),
+            lengths.len(),
+            store.as_mut_ptr(),
+            store.len(),
+            marks.as_mut_ptr(),
+            marks.len(),
+            received.as_mut_ptr(),
+            received.len(),
+            sent.as_mut_ptr(),
+            sent.len(),
+        )
+    }
+}
+
+/// `rimemagpie_card_finish`.
+#[allow(clippy::too_many_arguments)]
+pub fn card_finish(
+    tail: &[u8; TAIL_MOST],
+    kept: u64,
+    read: u64,
+    low: u64,
+    form: u8,
+    phase: u8,
+    spare_ids: &[u32],
+    spare_lengths: &[u8],
+    spare_store: &[u8],
+    spare_marks: &[u8],
+    spare_received: &[u64],
+    spare_sent: &[u64],
+    ids: &mut [u32],
+    lengths: &mut [u8],
+    store: &mut [u8],
+    marks: &mut [u8],
+    received: &mut [u64],
+    sent: &mut [u64],
+    rows: &mut u64,
+) -> u8 {
+    unsafe {
+        header::rimemagpie_card_finish(
+            tail.as_ptr(),
+            kept,
+            read,
+            low,
+            form,
+            phase,
+            spare_ids.as_ptr(),
+            spare_ids.len(),
+            spare_lengths.as_ptr(),
+            spare_lengths.len(),
+            spare_store.as_ptr(),
+            spare_store.len(),
+            spare_marks.as_ptr(),
+            spare_marks.len(),
+            spare_received.as_ptr(),
+            spare_received.len(),
+            spare_sent.as_ptr(),
+            spare_sent.len(),
+            ids.as_mut_ptr(),
+            ids.len(),
+            lengths.as_mut_ptr(),
+            lengths.len(),
+            store.as_mut_ptr(),
+            store.len(),
+            marks.as_mut_ptr(),
+            marks.len(),
+            received.as_mut_ptr(),
+            received.len(),
+            sent.as_mut_ptr(),
+            sent.len(),
+            rows,
         )
     }
 }

@@ -1,5 +1,6 @@
 //! RFC 3118 delayed authentication for DHCPv4 messages: the proved library, as a Rust program uses
-//! it. FORCERENEW by nonce (RFC 6704) is in [`forcerenew`].
+//! it. FORCERENEW by nonce (RFC 6704) is in [`forcerenew`], and reading a card in pieces, as it
+//! arrives, in [`card_pieces`].
 //!
 //! ```
 //! use rimemagpie::{card_move, Accepted, Book, Form, Refusal, CARD_MOST, HEARD, NOT_HEARD};
@@ -46,6 +47,7 @@
 #![warn(missing_docs)]
 
 pub mod c;
+pub mod card_pieces;
 pub mod forcerenew;
 mod refusal;
 
@@ -54,7 +56,7 @@ use std::fmt;
 pub use refusal::Refusal;
 
 /// The size of the largest card, which is enough room to write or move any.
-pub const CARD_MOST: usize = 5_702;
+pub const CARD_MOST: usize = 22_790;
 
 /// The mark of a row under which nothing was accepted yet: any counter is taken.
 pub const NOT_HEARD: u8 = 0;
@@ -121,7 +123,7 @@ pub struct Accepted {
 /// [`HEARD`]. A mark that is set back to [`NOT_HEARD`] together with its received counter (where that
 /// is 0 already, the mark alone) lets all earlier messages under that secret in once more.
 ///
-/// The book is sound when the sizes are so, `rows` is at most n and at most 64, the ids in use
+/// The book is sound when the sizes are so, `rows` is at most n and at most 256, the ids in use
 /// ascend strictly, their key lengths are 1 to 64, their marks are [`NOT_HEARD`] or [`HEARD`], and the
 /// received counter of each row in use that is not heard is 0. Any other book is refused with
 /// [`Refusal::UnsoundBook`].

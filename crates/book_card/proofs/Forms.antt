@@ -6,15 +6,15 @@ use mathlib.Core.List.{List, _++_}
 use Prim.Native.Nat.{ℕ, _+_, _*_, _^_, _≤_, _<_}
 use native.Mathlib.Omega.{arith}
 use borrow.Author.Tests.{eq-eqb, ne-eqb, lt-ltb, le-ltb}
-use lib.ListN.{length, drop}
+use lib.ListN.{length, drop, length-append}
 use Rattle.octets.specs.Bytes.{Bytes}
 use Rattle.octets.specs.Numbers.{le, littleAt}
-use Rattle.octets.proofs.LowFirst.{number-of, number-split, number-from}
-use Rattle.key_book.specs.Limits.{notHeard, heard}
+use Rattle.octets.proofs.LowFirst.{number-of, number-split, number-from, number-append}
+use Rattle.key_book.specs.Limits.{slotSize, notHeard, heard}
 use Rattle.key_book.specs.Book.{MarkFits}
 use Rattle.book_card.specs.declared.CardForm.{CardForm}
 use Rattle.book_card.specs.declared.CardForm.the-variants.{Old, New}
-use Rattle.book_card.specs.Layout.{kindSize, markSize, rowKind, closeKind, kindAt, bodyAt, markAt}
+use Rattle.book_card.specs.Layout.{kindSize, markSize, rowKind, closeKind, kindAt, bodyAt, markAt, keyAt, recordMost}
 use Rattle.book_card.specs.Card.{Held}
 use Rattle.book_card.specs.Reader.{formIn, markIn}
 
@@ -24,6 +24,11 @@ pub mark-small : (form : CardForm) → markSize form ≤ 1
 unfolding markSize
 mark-small Old = omega arith
 mark-small New = omega arith
+
+pub mark-least : (form : CardForm) → markSize Old ≤ markSize form
+unfolding markSize
+mark-least Old = omega arith
+mark-least New = omega arith
 
 pub kind-fits : (form : CardForm) → rowKind form < 256 ^ kindSize
 unfolding rowKind
@@ -48,6 +53,11 @@ pub marks-few : (form : CardForm) (rows : ℕ) → markSize form * rows ≤ rows
 unfolding markSize
 marks-few Old rows = omega arith
 marks-few New rows = omega arith
+
+-- the largest record is a row of the new form
+pub record-most : recordMost ≡ keyAt New + slotSize
+unfolding markSize
+record-most = refl
 
 -- what `mark_size` and `row_kind` answer
 pub size-old : 0 ≡ markSize Old
@@ -76,6 +86,12 @@ mark-old s = refl
 pub mark-new : (card : List ℕ) (at x : ℕ) → x ≡ littleAt card (at + markAt) 1 → x ≡ markIn New (drop at card)
 unfolding markIn markSize
 mark-new card at x e = e ∙ sym (number-from card at markAt 1)
+
+-- with bytes behind it
+pub mark-append : (form : CardForm) (s t : List ℕ) → markAt + markSize form ≤ length s → markIn form (s ++ t) ≡ markIn form s
+unfolding markSize markIn
+mark-append Old s t h = refl
+mark-append New s t h = number-append s t markAt 1 h
 
 -- a mark is below 256
 pub mark-byte : (mark received : ℕ) → MarkFits mark received → mark < 256
@@ -122,3 +138,10 @@ module _ (s : List ℕ) where
     unfolding rowKind
     form-kind Old e = form-old (λ z. omega arith)
     form-kind New e = form-new e
+
+-- with bytes behind the first record's kind
+pub form-append : (s t : List ℕ) → bodyAt ≤ length s → formIn (s ++ t) ≡ formIn s
+unfolding formIn
+form-append s t h =
+    let l = length-append s t in
+    rw (le-ltb (length (s ++ t)) bodyAt (omega arith), le-ltb (length s) bodyAt h, number-append s t kindAt kindSize h)

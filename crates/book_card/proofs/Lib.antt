@@ -1,5 +1,6 @@
 pub mod Forms
 pub mod Fronts
+pub mod Wants
 pub mod Shape
 pub mod Steps
 pub mod Says

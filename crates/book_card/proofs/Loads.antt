@@ -1,18 +1,22 @@
--- Setting rows of a book: one from its record on a card, and many one by one. No other law unfolds `setRow` and `loaded`.
+-- Setting rows of a book: one from its record on a card, and many one by one. No other law unfolds `setRow`, `putRow` and `loaded`.
 use mathlib.Core.Path.{_≡_, refl, sym, ap, _∙_}
+use mathlib.Core.Bool.{Bool, true, false, not, _&&_}
 use mathlib.Core.List.{List, [], _∷_, map}
 use Prim.Native.Nat.{ℕ, suc, _+_, _-_, _*_, _≤_, _<_}
 use native.Mathlib.Nat.{zero-add}
 use native.Mathlib.Omega.{arith}
+use borrow.Author.Tests.{lt-ltb, le-ltb, le-leb, lt-leb, not-true, not-false}
+use lib.Dec.{leb, ltb}
 use lib.ListN.{length, set, length-set}
 use Rattle.octets.specs.Bytes.{written, zeros}
 use Rattle.octets.proofs.Written.{length-written, written-cons, written-join, written-none}
 use Rattle.octets.proofs.Filled.{written-filled}
 use Rattle.key_book.specs.Limits.{slotSize}
-use Rattle.key_book.specs.Book.{Book, bookOf, Sized}
+use Rattle.key_book.specs.Book.{Book, bookOf, Sized, sized}
 use Rattle.key_book.specs.Laws.{Within}
+use Rattle.key_book.proofs.Says.{sized-says}
 use Rattle.book_card.specs.Card.{Row, rowWith}
-use Rattle.book_card.specs.Reading.{slotsOf, setRow, loaded}
+use Rattle.book_card.specs.Reading.{slotsOf, setRow, putRow, loaded}
 use Rattle.book_card.proofs.Slots.{slotOf, slot-length, slots-none, slots-cons}
 
 -- ---- one row
@@ -22,7 +26,7 @@ pub row-set : (b : Book) (row : ℕ) → Within b row → (key : List ℕ) → l
     → store₁ ≡ written (slotSize * row) key (b .store)
     → store₂ ≡ written (slotSize * row + length key) (zeros (slotSize - length key)) store₁
     → bookOf (set (b .ids) row id) (set (b .lengths) row (length key)) store₂ (set (b .marks) row mark) (set (b .received) row received)
-    (set (b .sent) row sent) 0
+    (set (b .sent) row sent) (b .rows)
     ≡ setRow b row (rowWith id mark received sent key)
 unfolding setRow
 row-set b row w key small id mark received sent store₁ store₂ e₁ e₂ =
@@ -31,7 +35,7 @@ row-set b row w key small id mark received sent store₁ store₂ e₁ e₂ =
     e₂ ∙ ap (written (slotSize * row + length key) (zeros (slotSize - length key))) e₁
     ∙ written-filled slotSize key small (slotSize * row) (b .store) room in
     λ i. bookOf (set (b .ids) row id) (set (b .lengths) row (length key)) (s i) (set (b .marks) row mark) (set (b .received) row received)
-    (set (b .sent) row sent) 0
+    (set (b .sent) row sent) (b .rows)
 
 module _ (b : Book) (z : Sized b) (k : ℕ) (r : Row) (h : k < length (b .ids)) (t : length (r .key) ≤ slotSize) where
   pub room-for : Within b k
@@ -64,6 +68,49 @@ module _ (b : Book) (z : Sized b) (k : ℕ) (r : Row) (h : k < length (b .ids)) 
         received-agree = length-set (b .received) k _ ∙ z .received-agree ∙ sym i;
         sent-agree = length-set (b .sent) k _ ∙ z .sent-agree ∙ sym i;
       }
+
+-- ---- one row, where it has its place
+
+module _ (b : Book) (k : ℕ) (r : Row) where
+  pub put-set : Sized b → k < length (b .ids) → length (r .key) ≤ slotSize → putRow b k r ≡ setRow b k r
+  unfolding putRow
+  put-set z h t = rw (sized-says b .1 z, lt-ltb k (length (b .ids)) h, le-leb (length (r .key)) slotSize t)
+
+  -- and where it has none nothing is changed
+  put-kept : (t u v : Bool) → (t && u && v) ≡ false → sized b ≡ t → ltb k (length (b .ids)) ≡ u → leb (length (r .key)) slotSize ≡ v → putRow b k r ≡ b
+  unfolding putRow
+  put-kept t u v e p q w = rw (p, q, w, e)
+
+  pub put-past : length (b .ids) ≤ k → putRow b k r ≡ b
+  put-past h = on (sized b) refl (leb (length (r .key)) slotSize) refl
+    where
+      on : (t : Bool) → sized b ≡ t → (v : Bool) → leb (length (r .key)) slotSize ≡ v → putRow b k r ≡ b
+      on true p v w = put-kept true false v refl p (le-ltb k (length (b .ids)) h) w
+      on false p v w = put-kept false false v refl p (le-ltb k (length (b .ids)) h) w
+
+  -- the ends of `put_row`, by what `sizes_agree` told
+  module _ (t : Bool) (e : t ≡ sized b) where
+    pub put-unsized : not t ≡ true → b ≡ putRow b k r
+    put-unsized h =
+        sym (put-kept false (ltb k (length (b .ids))) (leb (length (r .key)) slotSize) refl (sym e ∙ not-true t h) refl refl)
+
+    pub put-long : slotSize < length (r .key) → b ≡ putRow b k r
+    put-long h = on (sized b) refl (ltb k (length (b .ids))) refl
+      where
+        on : (t : Bool) → sized b ≡ t → (u : Bool) → ltb k (length (b .ids)) ≡ u → b ≡ putRow b k r
+        on true p true q = sym (put-kept true true false refl p q (lt-leb (length (r .key)) slotSize h))
+        on true p false q = sym (put-kept true false false refl p q (lt-leb (length (r .key)) slotSize h))
+        on false p u q = sym (put-kept false u false refl p q (lt-leb (length (r .key)) slotSize h))
+
+    module _ (h : not t ≡ false) (l : k < length (b .ids)) (m : length (r .key) ≤ slotSize) where
+      sizes : Sized b
+      sizes = sized-says b .0 (sym e ∙ not-false t h)
+
+      pub put-place : Within b k × (length (r .key) ≤ slotSize)
+      put-place = (room-for b sizes k r l m, m)
+
+      pub put-done : (c : Book) → c ≡ setRow b k r → c ≡ putRow b k r
+      put-done c f = f ∙ sym (put-set sizes l m)
 
 -- ---- many rows
 

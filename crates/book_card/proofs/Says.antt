@@ -19,7 +19,7 @@ use Rattle.book_card.specs.declared.CardForm.{CardForm}
 use Rattle.book_card.specs.Layout.{countSize, keyAt, closeSize}
 use Rattle.book_card.specs.Card.{Row, rowRecord, rowRecords, close, cardOf, RowFits, emptyRow, InOrder, IsCard}
 use Rattle.book_card.specs.Reader.{formIn, frontOf, rowFront, CardEnd, closed, fault, FrontRows}
-use Rattle.book_card.specs.Reader.{ended, withRow, stepFrom, frontFrom, rowsInFront, rowsBy, cardIn, readCard}
+use Rattle.book_card.specs.Reader.{ended, withRow, stepFrom, frontFrom, rowsInFront, lowAfter, rowsBy, cardIn, readCard}
 use Rattle.book_card.specs.Laws.{FrontSays, CardSays, MalformedSays}
 use Rattle.book_card.specs.declared.Front.{Front}
 use Rattle.book_card.specs.declared.Front.the-variants.{Broken, Row as RowFront, Close}
@@ -74,11 +74,6 @@ module _ (form : CardForm) where
   -- rows, and what is in front of the bytes that follow them
   abbrev ahead : List Row → FrontRows → FrontRows
   ahead rows f = record { rows = rows ++ f .rows; ends = f .ends; rest = f .rest }
-
-  -- the least id that may follow rows
-  unfoldable lowAfter : ℕ → List Row → ℕ
-  lowAfter low [] = low
-  lowAfter low (r ∷ rows) = lowAfter (suc (r .id)) rows
 
   -- rows in order whose records stand in front are read, and reading goes on behind them
   reads : (rows : List Row) (left low n : ℕ) (t : List ℕ) → After low rows → length rows ≤ left

@@ -1,5 +1,6 @@
 -- The fields of a card's records, each number named once: docs/RULES.md, 'The card'. src/layout.rt draws them and has the same names.
 use Prim.Native.Nat.{ℕ, _+_}
+use Rattle.key_book.specs.Limits.{slotSize}
 use Rattle.book_card.specs.declared.CardForm.{CardForm}
 use Rattle.book_card.specs.declared.CardForm.the-variants.{Old, New}
 
@@ -46,6 +47,10 @@ keyAt form = sentAt form + counterSize
 -- the whole close
 abbrev pub closeSize : ℕ
 closeSize = bodyAt + countSize
+
+-- the largest record of either form: a row of the new one with the longest key
+abbrev pub recordMost : ℕ
+recordMost = markAt + 1 + counterSize + counterSize + slotSize
 
 -- the kinds of record
 unfoldable pub rowKind : CardForm → ℕ

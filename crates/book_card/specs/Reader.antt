@@ -1,11 +1,11 @@
 -- The reader of a card, computed: which form its rows have, what record stands in front, the rows in front and how they end, and the rows of a whole
 -- card.
 -- What it means is in specs/Card.antt; that it agrees is stated in specs/Laws.antt.
-use mathlib.Core.Bool.{cond}
+use mathlib.Core.Bool.{Bool, true, false, cond, _&&_, _||_}
 use mathlib.Core.Option.{Option, none, some}
 use Prim.Native.Nat.{ℕ, zero, suc, _+_, _-_}
 use mathlib.Core.List.{List, [], _∷_}
-use lib.Dec.{ltb, eqb}
+use lib.Dec.{leb, ltb, eqb}
 use lib.ListN.{length, take, drop}
 use Rattle.octets.specs.Numbers.{littleAt}
 use Rattle.key_book.specs.Limits.{rowsMost, slotSize, heard}
@@ -51,6 +51,19 @@ frontOf form s =
     cond (ltb (length s) bodyAt) Broken
     (cond (ltb (length s - lengthSize) (littleAt s 0 lengthSize)) Broken (frontBy form s (littleAt s 0 lengthSize) (littleAt s kindAt kindSize)))
 
+-- whether some record has this number in its length field: a row of a form, or any record
+abbrev pub rowLength : CardForm → ℕ → Bool
+rowLength form size = leb (keyAt form - lengthSize + 1) size && leb size (keyAt form - lengthSize + slotSize)
+
+unfoldable pub recordLength : ℕ → Bool
+recordLength size = eqb size (closeSize - lengthSize) || (rowLength Old size || rowLength New size)
+
+-- whether the record in front wants more bytes: its length field passes the end, or what it counts does, and some record has that length
+unfoldable pub wants : List ℕ → Bool
+wants s =
+    cond (ltb (length s) lengthSize) true
+    (cond (ltb (length s - lengthSize) (littleAt s 0 lengthSize)) (recordLength (littleAt s 0 lengthSize)) false)
+
 -- the row in front, by its fields and the size of its key
 abbrev pub rowFront : CardForm → List ℕ → (id mark received sent size : ℕ) → Row
 rowFront form s id mark received sent size = rowWith id mark received sent (take size (drop (keyAt form) s))
@@ -88,6 +101,11 @@ frontFrom form (suc left) low n s = stepFrom form (λ r l m t. withRow r (frontF
 -- the rows of a form in front of a byte string that is to be a card
 unfoldable pub rowsInFront : CardForm → List ℕ → FrontRows
 rowsInFront form s = frontFrom form rowsMost 0 0 s
+
+-- the least id that may follow rows, where `low` was before them
+unfoldable pub lowAfter : ℕ → List Row → ℕ
+lowAfter low [] = low
+lowAfter low (r ∷ rows) = lowAfter (suc (r .id)) rows
 
 -- the rows of a card, by the rows in front and how they end
 abbrev pub rowsBy : List Row → CardEnd → Option (List Row)

@@ -1,9 +1,9 @@
 -- Reading a card into a lent book: the answer, and every lent list afterwards (docs/RULES.md, 'The card').
-use mathlib.Core.Bool.{cond}
+use mathlib.Core.Bool.{cond, _&&_}
 use mathlib.Core.Option.{Option, none, some, Option·getD}
 use mathlib.Core.List.{List, [], _∷_, _++_, map}
 use Prim.Native.Nat.{ℕ, _*_}
-use lib.Dec.{ltb}
+use lib.Dec.{leb, ltb}
 use lib.ListN.{length, set}
 use Rattle.octets.specs.Bytes.{written, filled}
 use Rattle.refusal.specs.Number.{numberOf, done}
@@ -20,7 +20,7 @@ unfoldable pub slotsOf : List Row → List ℕ
 slotsOf [] = []
 slotsOf (r ∷ rows) = filled slotSize (r .key) ++ slotsOf rows
 
--- a book with one row set, and none in use
+-- a book with one row set
 unfoldable pub setRow : Book → ℕ → Row → Book
 setRow b k r =
     bookOf
@@ -30,7 +30,11 @@ setRow b k r =
     (set (b .marks) k (r .mark))
     (set (b .received) k (r .received))
     (set (b .sent) k (r .sent))
-    0
+    (b .rows)
+
+-- a book with one row set where its sizes agree, it has room for the row, and the row's key fits a slot; else as it was
+unfoldable pub putRow : Book → ℕ → Row → Book
+putRow b k r = cond (sized b && ltb k (length (b .ids)) && leb (length (r .key)) slotSize) (setRow b k r) b
 
 -- a book with these rows, in use; further rows unchanged
 unfoldable pub loaded : Book → List Row → Book

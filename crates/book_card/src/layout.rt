@@ -9,6 +9,7 @@
 ghost use mathlib.Core.Path.{_≡_};
 ghost use Rattle.book_card.specs.Layout.{markSize, receivedAt, sentAt, keyAt, rowKind};
 use crate::CardForm;
+use key_book::SLOT_SIZE;
 
 // The sizes of the fields.
 pub(crate) const LENGTH_SIZE: usize = 2;
@@ -30,14 +31,17 @@ pub(crate) const BODY_AT: usize = KIND_AT + KIND_SIZE;
 
 pub(crate) const MARK_AT: usize = BODY_AT + ID_SIZE;
 
-pub(crate) const CLOSE_SIZE: usize = BODY_AT + COUNT_SIZE;
+pub const CLOSE_SIZE: usize = BODY_AT + COUNT_SIZE;
+
+// The size of the largest record of either form: a row of the new one with the longest key.
+pub const RECORD_MOST: usize = MARK_AT + MARK_SIZE + COUNTER_SIZE + COUNTER_SIZE + SLOT_SIZE;
 
 // The kinds of record.
-pub(crate) const OLD_ROW_KIND: u64 = 1;
+pub const OLD_ROW_KIND: u64 = 1;
 
 pub(crate) const CLOSE_KIND: u64 = 2;
 
-pub(crate) const NEW_ROW_KIND: u64 = 3;
+pub const NEW_ROW_KIND: u64 = 3;
 
 // The kind of a form's rows.
 pub(crate) fn row_kind(form: CardForm) -> u64
@@ -72,7 +76,7 @@ pub(crate) fn sent_at(form: CardForm) -> usize
     received_at(form) + COUNTER_SIZE
 }
 
-pub(crate) fn key_at(form: CardForm) -> usize
+pub fn key_at(form: CardForm) -> usize
     ensures { λ r. ⌜ r ≡ keyAt form ⌝ }
 {
     sent_at(form) + COUNTER_SIZE

@@ -8,8 +8,17 @@ mod reading;
 mod records;
 mod writing;
 
+pub use layout::CLOSE_SIZE;
+pub use layout::NEW_ROW_KIND;
+pub use layout::OLD_ROW_KIND;
+pub use layout::RECORD_MOST;
+pub use layout::key_at;
 pub use moving::card_move;
+pub use reader::form_in;
+pub use reader::front_at;
+pub use reader::wants_more;
 pub use reading::card_read;
+pub use reading::put_row;
 use refusal::Refusal;
 pub use writing::card_write;
 
@@ -22,7 +31,7 @@ pub enum CardForm {
 }
 
 // The record at a place of a card whose rows have a form.
-enum Front {
+pub enum Front {
     // No whole record, no row of the form and no close, a length that is not of its kind, or a mark that does not go with its counter.
     Broken,
     // A row: its fields, and the size of its key.

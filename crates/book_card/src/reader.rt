@@ -3,7 +3,7 @@ ghost use mathlib.Core.Path.{_≡_};
 ghost use Prim.Native.Nat.{_+_, _≤_};
 ghost use lib.ListN.{length, drop};
 ghost use Rattle.book_card.specs.Layout.{lengthSize, markAt, markSize};
-ghost use Rattle.book_card.specs.Reader.{formIn, markIn, rowBy, frontOf, rowsInFront, cardIn, countedFrom};
+ghost use Rattle.book_card.specs.Reader.{formIn, markIn, rowBy, frontOf, recordLength, wants, rowsInFront, cardIn, countedFrom};
 use crate::CardForm;
 use crate::Counted;
 use crate::Front;
@@ -19,6 +19,7 @@ use crate::layout::LENGTH_SIZE;
 use crate::layout::MARK_AT;
 use crate::layout::MARK_SIZE;
 use crate::layout::NEW_ROW_KIND;
+use crate::layout::RECORD_MOST;
 use crate::layout::key_at;
 use crate::layout::received_at;
 use crate::layout::row_kind;
@@ -27,7 +28,7 @@ use key_book::ROWS_MOST;
 use key_book::SLOT_SIZE;
 
 // The form of a card's rows, by the kind of its first record.
-pub(crate) fn form_in(card: &[u8]) -> CardForm
+pub fn form_in(card: &[u8]) -> CardForm
     ensures { λ r. ⌜ r ≡ formIn (now (card .entry)) ⌝ }
 {
     if card.len() < BODY_AT {
@@ -77,10 +78,12 @@ fn row_at(card: &[u8], at: usize, form: CardForm, size: usize) -> Front
 }
 
 // The record at a place of a card whose rows have this form.
-pub(crate) fn front_at(card: &[u8], at: usize, form: CardForm) -> Front
-    requires { ⌜ at ≤ length (now card) ⌝ }
+pub fn front_at(card: &[u8], at: usize, form: CardForm) -> Front
     ensures { λ r. ⌜ r ≡ frontOf form (drop at (now (card .entry))) ⌝ }
 {
+    if card.len() < at {
+        return Front::Broken;
+    }
     let left = card.len() - at;
     if left < BODY_AT {
         return Front::Broken;
@@ -100,6 +103,37 @@ pub(crate) fn front_at(card: &[u8], at: usize, form: CardForm) -> Front
         return Front::Broken;
     }
     row_at(card, at, form, size)
+}
+
+// Whether some record has this number in its length field.
+fn is_length(size: usize) -> bool
+    ensures { λ r. ⌜ r ≡ recordLength size ⌝ }
+{
+    if size == CLOSE_SIZE - LENGTH_SIZE {
+        return true;
+    }
+    if size < key_at(CardForm::Old) - LENGTH_SIZE + 1 {
+        return false;
+    }
+    size <= RECORD_MOST - LENGTH_SIZE
+}
+
+// Whether the record at a place of a card wants more bytes than there are. One whose length no record has wants none, be it there or not.
+pub fn wants_more(card: &[u8], at: usize) -> bool
+    ensures { λ r. ⌜ r ≡ wants (drop at (now (card .entry))) ⌝ }
+{
+    if card.len() < at {
+        return true;
+    }
+    let left = card.len() - at;
+    if left < LENGTH_SIZE {
+        return true;
+    }
+    let size = octets::little(card, at, LENGTH_SIZE) as usize;
+    if size <= left - LENGTH_SIZE {
+        return false;
+    }
+    is_length(size)
 }
 
 // The first pass: whether the bytes are a card with rows of this form, and of how many. Nothing is written before it is known.

@@ -7,7 +7,7 @@ ghost use Rattle.key_book.specs.Book.{bookOf, Sized};
 ghost use Rattle.key_book.specs.Laws.{Within};
 ghost use Rattle.book_card.specs.Card.{rowWith};
 ghost use Rattle.book_card.specs.Reader.{formIn, readCard, countedFrom};
-ghost use Rattle.book_card.specs.Reading.{readOf, readBook, rowsIn, setRow, loaded, rowsGiven};
+ghost use Rattle.book_card.specs.Reading.{readOf, readBook, rowsIn, setRow, putRow, loaded, rowsGiven};
 use crate::CardForm;
 use crate::Counted;
 use crate::Front;
@@ -50,6 +50,52 @@ fn set_row(
     let slot = SLOT_SIZE * row;
     octets::copy(key, store, slot);
     octets::clear(store, slot + key.len(), SLOT_SIZE - key.len());
+}
+
+// Sets a row of a book where it has its place: nothing is changed where the sizes disagree, there is no room for the row, or the key is longer than a slot.
+pub fn put_row(
+    id: u32,
+    mark: u8,
+    counter: u64,
+    last: u64,
+    key: &[u8],
+    row: usize,
+    ids: &mut [u32],
+    lengths: &mut [u8],
+    store: &mut [u8],
+    marks: &mut [u8],
+    received: &mut [u64],
+    sent: &mut [u64],
+)
+    ensures { λ _. ⌜
+        (let b = bookOf (now (ids .entry)) (now (lengths .entry)) (now (store .entry)) (now (marks .entry)) (now (received .entry)) (now (sent .entry)) 0 in
+        bookOf (now (ids .exit)) (now (lengths .exit)) (now (store .exit)) (now (marks .exit)) (now (received .exit)) (now (sent .exit)) 0
+        ≡ putRow b row (rowWith id mark counter last (now (key .entry))))
+        ⌝ }
+{
+    if !key_book::sizes_agree(ids, lengths, store, marks, received, sent) {
+        return;
+    }
+    if ids.len() <= row {
+        return;
+    }
+    if SLOT_SIZE < key.len() {
+        return;
+    }
+    set_row(
+        id,
+        mark,
+        counter,
+        last,
+        key,
+        row,
+        ids,
+        lengths,
+        store,
+        marks,
+        received,
+        sent,
+    );
 }
 
 // The second pass: sets the rows of a card that was found good.

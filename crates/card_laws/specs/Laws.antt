@@ -31,8 +31,8 @@ pub record LargestCard : Type 0 where
   pub most : (form : CardForm) (rows : List Row) → InOrder form rows → length (cardOf form rows) ≤ cardMost form
   pub reached : (form : CardForm) → length (cardOf form (fullRows 0 rowsMost)) ≡ cardMost form
   pub reached-in-order : (form : CardForm) → InOrder form (fullRows 0 rowsMost)
-  pub old-bytes : cardMost Old ≡ 5638
-  pub new-bytes : cardMost New ≡ 5702
+  pub old-bytes : cardMost Old ≡ 22534
+  pub new-bytes : cardMost New ≡ 22790
 
 -- row k of a book is a card's row: its id, its key's size, its mark and its counters, and in its slot the key with zeros after it
 pub record RowSet (c : Book) (k : ℕ) (r : Row) : Type 0 where

@@ -8,6 +8,7 @@ use Rattle.demands.proofs.DemandCheck.{check-number, check-keeps, key-n
 use Rattle.demands.proofs.DemandSeal.{seal-number, seal-keeps}
 use Rattle.demands.proofs.DemandDigests.{feed-number, finish-number, finish-zeros, digest-number, digest-zeros, hmac-number, hmac-zeros}
 use Rattle.demands.proofs.DemandJudge.{judge-number, judge-keeps}
+use Rattle.demands.proofs.DemandPieces.{piece-number, piece-keeps, end-number, end-keeps}
 use Rattle.demands.proofs.DemandCards.{read-number, read-keeps, write-number, write-keeps, move-number, move-keeps}
 
 pub demand-1 : Demand1
@@ -32,6 +33,10 @@ demand-1 = record {
   card-write-keeps = write-keeps;
   card-move = move-number;
   card-move-keeps = move-keeps;
+  card-feed = piece-number;
+  card-feed-keeps = piece-keeps;
+  card-finish = end-number;
+  card-finish-keeps = end-keeps;
   judge = judge-number;
   judge-keeps = judge-keeps;
 }

@@ -15,6 +15,7 @@ pub mod DemandCheck
 pub mod DemandSeal
 pub mod DemandDigests
 pub mod DemandCards
+pub mod DemandPieces
 pub mod Demand1
 pub mod Computing
 pub mod Bench

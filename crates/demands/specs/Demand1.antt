@@ -40,6 +40,9 @@ use Rattle.book_card.specs.Card.{Row, emptyRow, cardOf, CardFor, NoCard}
 use Rattle.book_card.specs.Reading.{readOf, readBook, readNumber}
 use Rattle.book_card.specs.Writing.{rowsOf, writeOf, roomAfter, writeNumber}
 use Rattle.book_card.specs.Moving.{moveOf, roomMoved}
+use Rattle.card_pieces.specs.declared.Reader.{Reader}
+use Rattle.card_pieces.specs.Pieces.{feedOf as pieceOf, feedSpare, finishOf as endOf, finishBook}
+use Rattle.card_pieces.specs.Laws.{Takes, Usable, Ended}
 use Rattle.forcerenew.specs.Layout.{nonceLength, byNonce, givesNonce, ordersRenewal, ackType, forcerenewType}
 use Rattle.forcerenew.specs.Rows.{noneYet, heard, Servers, SoundRows, nonceAt}
 use Rattle.forcerenew.specs.Shown.{counterIn, typeIn, valueIn, imageAt}
@@ -101,6 +104,17 @@ pub data MoveApplies (wanted : CardForm) (card room : List ℕ) : Refusal → Ty
   not-heard : wanted ≡ Old → (rows : List Row) → CardFor rows card → (k : ℕ) → k < length rows → getD rows k emptyRow .mark ≡ notHeard
       → MoveApplies wanted card room RowNotHeard
 
+-- a piece of a card: the spare rows' sizes disagree or there is room for too many, or a count of the state is past its limit
+pub data PieceApplies (b : Book) (st : Reader) : Refusal → Type 0 where
+  not-taken : (Takes b st → ⊥) → PieceApplies b st UnsoundBook
+
+-- the end of a card read in pieces, from the spare rows b into the book c: the sizes of either disagree, or of one with the other's, or a count of the state
+-- is past its limit; the close was not read or bytes are kept; there are more rows than room
+pub data FinishApplies (b : Book) (st : Reader) (c : Book) : Refusal → Type 0 where
+  not-usable : (Usable b st c → ⊥) → FinishApplies b st c UnsoundBook
+  not-ended : (Ended st → ⊥) → FinishApplies b st c MalformedCard
+  more-read : length (c .ids) < st .rows → FinishApplies b st c NoRoomForRows
+
 -- which types go with a message: 1 with an ACK, 2 with a FORCERENEW
 pub data GoesWith (m : List ℕ) : (type : ℕ) → Type 0 where
   nonce-in-ack : messageTypeOf m ≡ Stated ackType → GoesWith m givesNonce
@@ -156,6 +170,12 @@ pub record Demand1 : Type 0 where
       → Lowest (MoveApplies wanted card room) (writeNumber (moveOf wanted card (length room)))
   pub card-move-keeps : (wanted : CardForm) (card room : List ℕ) → writeNumber (moveOf wanted card (length room)) ≢ done
       → roomMoved wanted card room ≡ room
+  -- a card in pieces: of `feed` the spare rows are lent, which a piece fills where the number is 0; of `finish` the book
+  pub card-feed : (b : Book) (st : Reader) (piece : List ℕ) → Lowest (PieceApplies b st) (pieceOf b st piece .number)
+  pub card-feed-keeps : (b : Book) (st : Reader) (piece : List ℕ) → pieceOf b st piece .number ≢ done
+      → (pieceOf b st piece .state ≡ st) × (feedSpare b st piece ≡ b)
+  pub card-finish : (b : Book) (st : Reader) (c : Book) → Lowest (FinishApplies b st c) (readNumber (endOf b st c))
+  pub card-finish-keeps : (b : Book) (st : Reader) (c : Book) → readNumber (endOf b st c) ≢ done → finishBook b st c ≡ c
   -- the judgement by a nonce: the first in `judgingOrder` that applies
   pub judge : (s : Servers) (k : ℕ) (m : List ℕ) → Bytes m → First judgingOrder (JudgeApplies s k m) (judgedNumber (judgedOf (judgeOf s k m)))
   pub judge-keeps : (s : Servers) (k : ℕ) (m : List ℕ) → judgedNumber (judgedOf (judgeOf s k m)) ≢ done → serversAfter k (judgeOf s k m) s ≡ s

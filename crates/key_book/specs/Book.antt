@@ -2,7 +2,7 @@
 -- `Sound` is the rules' sentence and `sound` computes it; specs/Laws.antt states that they agree.
 use mathlib.Core.Path.{_≡_}
 use mathlib.Core.Logic.{_⊎_}
-use mathlib.Core.Bool.{Bool, true, cond, _&&_}
+use mathlib.Core.Bool.{Bool, true, not, cond, _&&_}
 use mathlib.Core.List.{List, [], _∷_}
 use mathlib.Core.Option.{Option, none, some}
 use Prim.Native.Nat.{ℕ, zero, suc, _+_, _-_, _*_, _^_, _≤_, _<_}
@@ -104,6 +104,10 @@ sound b =
 -- whether row k is heard
 abbrev pub heardAt : Book → ℕ → Bool
 heardAt b k = eqb (getD (b .marks) k 0) heard
+
+-- none of so many ids from a place on is this one
+unfoldable pub noneIs : List ℕ → (from count id : ℕ) → Bool
+noneIs ids from count id = allBelow (λ k. not (eqb (getD ids (from + k) 0) id)) count
 
 -- where an id first stands in a list whose first element has number k
 unfoldable pub placeFrom : ℕ → ℕ → List ℕ → Option ℕ

@@ -31,12 +31,12 @@ abbrev pub largestRow : Book
 largestRow =
     bookOf (replicate 1 4294967295) (64 ∷ []) (replicate 64 255) (1 ∷ []) (replicate 1 18446744073709551615) (replicate 1 18446744073709551615) 1
 
--- room for 1,024 rows and no more; 64 rows in use and no more; and `Lent` asks no more than the types give
+-- room for 1,024 rows and no more; 256 rows in use and no more; and `Lent` asks no more than the types give
 pub record BookLimits : Type 0 where
   pub most-room : sized (roomFor 1024) ≡ true
   pub too-much-room : sized (roomFor 1025) ≡ false
-  pub most-rows : sound (allUsed 64) ≡ true
-  pub too-many-rows : sound (allUsed 65) ≡ false
+  pub most-rows : sound (allUsed 256) ≡ true
+  pub too-many-rows : sound (allUsed 257) ≡ false
   pub largest-sound : sound largestRow ≡ true
   pub largest-lent : Lent largestRow
 

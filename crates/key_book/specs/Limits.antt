@@ -3,7 +3,7 @@ use Prim.Native.Nat.{ℕ}
 
 -- the most rows in use
 abbrev pub rowsMost : ℕ
-rowsMost = 64
+rowsMost = 256
 
 -- the bytes of a row's slot in the key store, and so of the longest key
 abbrev pub slotSize : ℕ

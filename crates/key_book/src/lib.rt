@@ -4,17 +4,21 @@
 // A book has room for n rows: ids, key lengths, marks and two rows of counters have n elements, and the key store a slot of SLOT_SIZE bytes per row.
 // Only the first `rows` of them are in use. Slot bytes past a key, and rows from `rows` on, affect no answer.
 ghost use mathlib.Core.Path.{_≡_};
-ghost use Prim.Native.Nat.{_≤_};
-ghost use lib.ListN.{length};
-ghost use Rattle.key_book.specs.Book.{bookOf, sized, ascending, keySizes, markFits, marksHeard, marksFit, sound, rowIn, foundOf};
+ghost use mathlib.Core.Logic.{_≢_};
+ghost use Prim.Native.Nat.{ℕ, _+_, _≤_, _<_};
+ghost use lib.ListN.{length, getD};
+ghost use Rattle.key_book.specs.Book.{bookOf, sized, ascending, keySizes, markFits, marksHeard, marksFit, sound, noneIs, rowIn, foundOf};
 ghost use Rattle.key_book.specs.Book.{keyIn, keyStart, movedOn};
 
 // The most rows in use.
-pub const ROWS_MOST: usize = 64;
+pub const ROWS_MOST: usize = 256;
 // The bytes of a row's slot in the key store, and so of the longest key.
 pub const SLOT_SIZE: usize = 64;
 // The most rows that there may be room for.
 pub const ROOM_MOST: usize = 1024;
+
+// How many ids a search looks at together.
+const TOGETHER: usize = 8;
 
 // The mark of a row that is not heard: nothing was accepted under it yet, its received counter is 0, and any counter is new.
 pub const NOT_HEARD: u8 = 0;
@@ -172,11 +176,43 @@ pub fn is_sound(
     marks_fit(marks, received, rows)
 }
 
+// Whether none of so many ids from a place on is this one. The loop has no way out, as in `ids_ascend`.
+fn none_is(ids: &[u32], from: usize, count: usize, id: u32) -> bool
+    requires { ⌜ from + count ≤ length (now ids) ⌝ }
+    ensures { λ r. ⌜ r ≡ noneIs (now (ids .entry)) from count id ⌝ }
+{
+    let mut none = true;
+    let mut k: usize = 0;
+    while k < count {
+        none = none & (ids[from + k] != id);
+        k += 1;
+    }
+    none
+}
+
+// How many of the first rows can be passed over, TOGETHER at a time: none of them has this id. None are where fewer ids are lent than rows are said to be
+// in use.
+fn passed_over(ids: &[u32], rows: usize, id: u32) -> usize
+    ensures { λ r. ⌜ (r ≤ length (now (ids .entry))) × ((j : ℕ) → j < r → getD (now (ids .entry)) j 0 ≢ id) ⌝ }
+{
+    if ids.len() < rows {
+        return 0;
+    }
+    let mut row: usize = 0;
+    while TOGETHER <= rows - row {
+        if !none_is(ids, row, TOGETHER, id) {
+            return row;
+        }
+        row += TOGETHER;
+    }
+    row
+}
+
 // The first row in use that has this id. Where fewer ids are lent than rows are said to be in use, all of them are looked at.
 pub fn row_of(ids: &[u32], rows: usize, id: u32) -> Found
     ensures { λ r. ⌜ r ≡ foundOf (rowIn (now (ids .entry)) rows id) ⌝ }
 {
-    let mut row: usize = 0;
+    let mut row = passed_over(ids, rows, id);
     while row < ids.len() {
         if rows <= row {
             return Found::Nothing;

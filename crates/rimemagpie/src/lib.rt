@@ -18,15 +18,22 @@ ghost use Rattle.book_card.specs.declared.CardForm.the-variants.{Old, New};
 ghost use Rattle.book_card.specs.Reading.{readOf, readBook, rowsGiven, readNumber};
 ghost use Rattle.book_card.specs.Writing.{writeOf, roomAfter, writeNumber};
 ghost use Rattle.book_card.specs.Moving.{moveOf, roomMoved};
+ghost use Rattle.card_pieces.specs.Pieces.{fresh};
+ghost use Rattle.card_pieces.specs.Numbers.{formNumber, phaseNumber};
 ghost use Rattle.rimemagpie.specs.Places.{rowPlace, counterPlace, offsetPlace, sizePlace, sealedPlace, rowsPlace, cardPlace};
 ghost use Rattle.rimemagpie.specs.Places.{kindPlace, judgedPlace};
+ghost use Rattle.rimemagpie.specs.States.{stateOf, fedNumber, fedSpare, tailPlace, keptPlace, readPlace, lowPlace, formPlace, phasePlace};
+ghost use Rattle.rimemagpie.specs.States.{endedAnswer, endedBook};
 use book_card::CardForm;
 use book_card::ReadAnswer;
 use book_card::WriteAnswer;
+use card_pieces::Reader;
+use card_pieces::TAIL_MOST;
 use delayed_auth::Keyed;
 use delayed_auth::Sealing;
 use delayed_auth::Verdict;
 use forcerenew::Judged;
+use refusal::Refusal;
 
 // The digest of a message.
 #[no_mangle]
@@ -338,5 +345,201 @@ pub extern "C" fn rimemagpie_forcerenew(
             0
         }
         Judged::Refused(refusal) => refusal::number(refusal),
+    }
+}
+
+// A fresh state for reading a card in pieces.
+#[no_mangle]
+pub extern "C" fn rimemagpie_card_begin(
+    tail: &mut [u8; TAIL_MOST],
+    kept: &mut u64,
+    read: &mut u64,
+    low: &mut u64,
+    form: &mut u8,
+    phase: &mut u8,
+)
+    ensures tail { λ _. ⌜ now (tail .exit) ≡ fresh .tail ⌝ }
+    ensures kept { λ _. ⌜ now (kept .exit) ≡ fresh .kept ⌝ }
+    ensures read { λ _. ⌜ now (read .exit) ≡ fresh .rows ⌝ }
+    ensures low { λ _. ⌜ now (low .exit) ≡ fresh .low ⌝ }
+    ensures form { λ _. ⌜ now (form .exit) ≡ formNumber (fresh .form) ⌝ }
+    ensures phase { λ _. ⌜ now (phase .exit) ≡ phaseNumber (fresh .phase) ⌝ }
+{
+    let state = card_pieces::begin();
+    let zeros = state.tail;
+    *tail = zeros;
+    *kept = state.kept as u64;
+    *read = state.rows as u64;
+    *low = state.low;
+    let rows_form = state.form;
+    *form = card_pieces::form_number(rows_form);
+    let stands = state.phase;
+    *phase = card_pieces::phase_number(stands);
+}
+
+// Reads a piece of a card into spare rows, and changes the state.
+#[no_mangle]
+pub extern "C" fn rimemagpie_card_feed(
+    tail: &mut [u8; TAIL_MOST],
+    kept: &mut u64,
+    read: &mut u64,
+    low: &mut u64,
+    form: &mut u8,
+    phase: &mut u8,
+    piece: &[u8],
+    ids: &mut [u32],
+    lengths: &mut [u8],
+    store: &mut [u8],
+    marks: &mut [u8],
+    received: &mut [u64],
+    sent: &mut [u64],
+) -> u8
+    ensures number { λ r. ⌜
+        (let b = bookOf (now (ids .entry)) (now (lengths .entry)) (now (store .entry)) (now (marks .entry)) (now (received .entry)) (now (sent .entry)) 0 in
+        let st = stateOf (now (tail .entry)) (now (kept .entry)) (now (read .entry)) (now (low .entry)) (now (form .entry)) (now (phase .entry)) in
+        r ≡ fedNumber b st (now (piece .entry)))
+        ⌝ }
+    ensures spare { λ _. ⌜
+        (let b = bookOf (now (ids .entry)) (now (lengths .entry)) (now (store .entry)) (now (marks .entry)) (now (received .entry)) (now (sent .entry)) 0 in
+        let st = stateOf (now (tail .entry)) (now (kept .entry)) (now (read .entry)) (now (low .entry)) (now (form .entry)) (now (phase .entry)) in
+        bookOf (now (ids .exit)) (now (lengths .exit)) (now (store .exit)) (now (marks .exit)) (now (received .exit)) (now (sent .exit)) 0
+        ≡ fedSpare b st (now (piece .entry)))
+        ⌝ }
+    ensures tail { λ _. ⌜
+        (let b = bookOf (now (ids .entry)) (now (lengths .entry)) (now (store .entry)) (now (marks .entry)) (now (received .entry)) (now (sent .entry)) 0 in
+        let st = stateOf (now (tail .entry)) (now (kept .entry)) (now (read .entry)) (now (low .entry)) (now (form .entry)) (now (phase .entry)) in
+        now (tail .exit) ≡ tailPlace b st (now (piece .entry)) (now (tail .entry)))
+        ⌝ }
+    ensures kept { λ _. ⌜
+        (let b = bookOf (now (ids .entry)) (now (lengths .entry)) (now (store .entry)) (now (marks .entry)) (now (received .entry)) (now (sent .entry)) 0 in
+        let st = stateOf (now (tail .entry)) (now (kept .entry)) (now (read .entry)) (now (low .entry)) (now (form .entry)) (now (phase .entry)) in
+        now (kept .exit) ≡ keptPlace b st (now (piece .entry)) (now (kept .entry)))
+        ⌝ }
+    ensures read { λ _. ⌜
+        (let b = bookOf (now (ids .entry)) (now (lengths .entry)) (now (store .entry)) (now (marks .entry)) (now (received .entry)) (now (sent .entry)) 0 in
+        let st = stateOf (now (tail .entry)) (now (kept .entry)) (now (read .entry)) (now (low .entry)) (now (form .entry)) (now (phase .entry)) in
+        now (read .exit) ≡ readPlace b st (now (piece .entry)) (now (read .entry)))
+        ⌝ }
+    ensures low { λ _. ⌜
+        (let b = bookOf (now (ids .entry)) (now (lengths .entry)) (now (store .entry)) (now (marks .entry)) (now (received .entry)) (now (sent .entry)) 0 in
+        let st = stateOf (now (tail .entry)) (now (kept .entry)) (now (read .entry)) (now (low .entry)) (now (form .entry)) (now (phase .entry)) in
+        now (low .exit) ≡ lowPlace b st (now (piece .entry)) (now (low .entry)))
+        ⌝ }
+    ensures form { λ _. ⌜
+        (let b = bookOf (now (ids .entry)) (now (lengths .entry)) (now (store .entry)) (now (marks .entry)) (now (received .entry)) (now (sent .entry)) 0 in
+        let st = stateOf (now (tail .entry)) (now (kept .entry)) (now (read .entry)) (now (low .entry)) (now (form .entry)) (now (phase .entry)) in
+        now (form .exit) ≡ formPlace b st (now (piece .entry)) (now (form .entry)))
+        ⌝ }
+    ensures phase { λ _. ⌜
+        (let b = bookOf (now (ids .entry)) (now (lengths .entry)) (now (store .entry)) (now (marks .entry)) (now (received .entry)) (now (sent .entry)) 0 in
+        let st = stateOf (now (tail .entry)) (now (kept .entry)) (now (read .entry)) (now (low .entry)) (now (form .entry)) (now (phase .entry)) in
+        now (phase .exit) ≡ phasePlace b st (now (piece .entry)) (now (phase .entry)))
+        ⌝ }
+{
+    if !card_pieces::are_numbers(*form, *phase) {
+        return refusal::number(Refusal::UnsoundBook);
+    }
+    let held = *tail;
+    let state = Reader {
+        tail: held,
+        kept: *kept as usize,
+        rows: *read as usize,
+        low: *low,
+        form: card_pieces::form_numbered(*form),
+        phase: card_pieces::phase_numbered(*phase),
+    };
+    let fed = card_pieces::feed(state, piece, ids, lengths, store, marks, received, sent);
+    let after = fed.state;
+    let left = after.tail;
+    *tail = left;
+    *kept = after.kept as u64;
+    *read = after.rows as u64;
+    *low = after.low;
+    let rows_form = after.form;
+    *form = card_pieces::form_number(rows_form);
+    let stands = after.phase;
+    *phase = card_pieces::phase_number(stands);
+    fed.number
+}
+
+// The end of a card read in pieces: copies the spare rows over to the book.
+#[no_mangle]
+pub extern "C" fn rimemagpie_card_finish(
+    tail: &[u8; TAIL_MOST],
+    kept: u64,
+    read: u64,
+    low: u64,
+    form: u8,
+    phase: u8,
+    spare_ids: &[u32],
+    spare_lengths: &[u8],
+    spare_store: &[u8],
+    spare_marks: &[u8],
+    spare_received: &[u64],
+    spare_sent: &[u64],
+    ids: &mut [u32],
+    lengths: &mut [u8],
+    store: &mut [u8],
+    marks: &mut [u8],
+    received: &mut [u64],
+    sent: &mut [u64],
+    rows: &mut u64,
+) -> u8
+    ensures number { λ r. ⌜
+        (let b = bookOf (now («spare_ids» .entry)) (now («spare_lengths» .entry)) (now («spare_store» .entry)) (now («spare_marks» .entry))
+        (now («spare_received» .entry)) (now («spare_sent» .entry)) 0 in
+        let c = bookOf (now (ids .entry)) (now (lengths .entry)) (now (store .entry)) (now (marks .entry)) (now (received .entry)) (now (sent .entry)) 0 in
+        let st = stateOf (now (tail .entry)) kept read low form phase in
+        r ≡ readNumber (endedAnswer b st c))
+        ⌝ }
+    ensures book { λ _. ⌜
+        (let b = bookOf (now («spare_ids» .entry)) (now («spare_lengths» .entry)) (now («spare_store» .entry)) (now («spare_marks» .entry))
+        (now («spare_received» .entry)) (now («spare_sent» .entry)) 0 in
+        let c = bookOf (now (ids .entry)) (now (lengths .entry)) (now (store .entry)) (now (marks .entry)) (now (received .entry)) (now (sent .entry)) 0 in
+        let st = stateOf (now (tail .entry)) kept read low form phase in
+        bookOf (now (ids .exit)) (now (lengths .exit)) (now (store .exit)) (now (marks .exit)) (now (received .exit)) (now (sent .exit))
+        (rowsGiven (endedAnswer b st c)) ≡ endedBook b st c)
+        ⌝ }
+    ensures rows { λ _. ⌜
+        (let b = bookOf (now («spare_ids» .entry)) (now («spare_lengths» .entry)) (now («spare_store» .entry)) (now («spare_marks» .entry))
+        (now («spare_received» .entry)) (now («spare_sent» .entry)) 0 in
+        let c = bookOf (now (ids .entry)) (now (lengths .entry)) (now (store .entry)) (now (marks .entry)) (now (received .entry)) (now (sent .entry)) 0 in
+        let st = stateOf (now (tail .entry)) kept read low form phase in
+        now (rows .exit) ≡ rowsPlace (now (rows .entry)) (endedAnswer b st c))
+        ⌝ }
+{
+    if !card_pieces::are_numbers(form, phase) {
+        return refusal::number(Refusal::UnsoundBook);
+    }
+    let held = *tail;
+    let state = Reader {
+        tail: held,
+        kept: kept as usize,
+        rows: read as usize,
+        low,
+        form: card_pieces::form_numbered(form),
+        phase: card_pieces::phase_numbered(phase),
+    };
+    let answer = card_pieces::finish(
+        state,
+        spare_ids,
+        spare_lengths,
+        spare_store,
+        spare_marks,
+        spare_received,
+        spare_sent,
+        ids,
+        lengths,
+        store,
+        marks,
+        received,
+        sent,
+    );
+    match answer {
+        ReadAnswer::Rows(given) => {
+            *rows = given as u64;
+            0
+        }
+        ReadAnswer::Refused(refusal) => refusal::number(refusal),
     }
 }

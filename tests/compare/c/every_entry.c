@@ -321,6 +321,186 @@ static void moves(struct book book)
     free(card);
 }
 
+/* A reader's state, each part a block of its own. */
+struct parts {
+    uint8_t *tail;
+    uint64_t *kept;
+    uint64_t *read;
+    uint64_t *low;
+    uint8_t *form;
+    uint8_t *phase;
+};
+
+/* A fresh state. */
+static struct parts begun(void)
+{
+    struct parts parts;
+
+    parts.tail = (uint8_t *)malloc(RIMEMAGPIE_CARD_TAIL_MOST);
+    parts.kept = (uint64_t *)malloc(sizeof *parts.kept);
+    parts.read = (uint64_t *)malloc(sizeof *parts.read);
+    parts.low = (uint64_t *)malloc(sizeof *parts.low);
+    parts.form = (uint8_t *)malloc(1);
+    parts.phase = (uint8_t *)malloc(1);
+    EXPECT(parts.tail && parts.kept && parts.read && parts.low && parts.form && parts.phase);
+    rimemagpie_card_begin(parts.tail, parts.kept, parts.read, parts.low, parts.form, parts.phase);
+    return parts;
+}
+
+static void free_parts(struct parts parts)
+{
+    free(parts.tail);
+    free(parts.kept);
+    free(parts.read);
+    free(parts.low);
+    free(parts.form);
+    free(parts.phase);
+}
+
+/* Feeds a piece, which is a block of its own, to the state in parts and to the struct: they stay the same. */
+static void feed_both(struct parts parts, struct rimemagpie_card_reader *reader, struct book spares[2],
+                      const uint8_t *bytes, size_t size, uint8_t number)
+{
+    uint8_t *piece = block_of(bytes, size);
+
+    EXPECT(rimemagpie_card_feed(parts.tail, parts.kept, parts.read, parts.low, parts.form, parts.phase, piece, size,
+                                LENT(spares[0])) == number);
+    EXPECT(rimemagpie_card_reader_feed(reader, piece, size, LENT(spares[1])) == number);
+    free(piece);
+    EXPECT(memcmp(parts.tail, reader->tail, sizeof reader->tail) == 0 && *parts.kept == reader->kept);
+    EXPECT(*parts.read == reader->read && *parts.low == reader->low);
+    EXPECT(*parts.form == reader->form && *parts.phase == reader->phase);
+    expect_same(spares[0], spares[1]);
+}
+
+/* The end of both, with this number; the book and the number of rows are as a whole reading of the card leaves them. */
+static void finish_both(struct parts parts, const struct rimemagpie_card_reader *reader, struct book spares[2],
+                        const uint8_t *card, size_t size, uint8_t number)
+{
+    struct book read = empty_book(), in_parts = empty_book(), whole = empty_book();
+    uint64_t rows = 7, rows_in_parts = 7, rows_whole = 7;
+
+    EXPECT(rimemagpie_card_finish(parts.tail, *parts.kept, *parts.read, *parts.low, *parts.form, *parts.phase,
+                                  LENT(spares[0]), LENT(in_parts), &rows_in_parts) == number);
+    EXPECT(rimemagpie_card_reader_finish(reader, LENT(spares[1]), LENT(read), &rows) == number);
+    EXPECT(rimemagpie_card_read(card, size, LENT(whole), &rows_whole) == number);
+    EXPECT(rows == rows_whole && rows_in_parts == rows_whole);
+    expect_same(read, whole);
+    expect_same(in_parts, whole);
+    free_book(read);
+    free_book(in_parts);
+    free_book(whole);
+}
+
+/* Reads a card in two pieces, cut at this place. */
+static void read_cut_at(const uint8_t *card, size_t size, size_t cut, uint8_t number)
+{
+    struct book spares[2] = {empty_book(), empty_book()};
+    struct parts parts = begun();
+    struct rimemagpie_card_reader reader;
+
+    memset(&reader, 9, sizeof reader);
+    rimemagpie_card_reader_begin(&reader);
+    feed_both(parts, &reader, spares, card, cut, RIMEMAGPIE_DONE);
+    feed_both(parts, &reader, spares, card, 0, RIMEMAGPIE_DONE);
+    feed_both(parts, &reader, spares, card + cut, size - cut, RIMEMAGPIE_DONE);
+    finish_both(parts, &reader, spares, card, size, number);
+    free_parts(parts);
+    free_book(spares[0]);
+    free_book(spares[1]);
+}
+
+/* A state with something past its limit is refused at a piece and at the end, and nothing is changed. */
+static void state_refused(const struct rimemagpie_card_reader *reader, const uint8_t *card)
+{
+    struct rimemagpie_card_reader lent = *reader;
+    struct book spare = empty_book(), book = empty_book(), empty = empty_book();
+    uint64_t rows = 7;
+
+    EXPECT(rimemagpie_card_reader_feed(&lent, card, NEW_SIZE, LENT(spare)) == RIMEMAGPIE_UNSOUND_BOOK);
+    EXPECT(rimemagpie_card_reader_finish(&lent, LENT(spare), LENT(book), &rows) == RIMEMAGPIE_UNSOUND_BOOK);
+    EXPECT(memcmp(lent.tail, reader->tail, sizeof lent.tail) == 0 && lent.kept == reader->kept);
+    EXPECT(lent.read == reader->read && lent.low == reader->low && lent.form == reader->form);
+    EXPECT(lent.phase == reader->phase && rows == 7);
+    expect_same(spare, empty);
+    expect_same(book, empty);
+    free_book(spare);
+    free_book(book);
+    free_book(empty);
+}
+
+static void states_refused(const uint8_t *card)
+{
+    struct rimemagpie_card_reader fresh, reader;
+
+    rimemagpie_card_reader_begin(&fresh);
+    reader = fresh;
+    reader.kept = RIMEMAGPIE_CARD_TAIL_MOST + 1;
+    state_refused(&reader, card);
+    reader = fresh;
+    reader.kept = UINT64_MAX;
+    state_refused(&reader, card);
+    reader = fresh;
+    reader.read = UINT64_MAX;
+    state_refused(&reader, card);
+    reader = fresh;
+    reader.form = 2;
+    state_refused(&reader, card);
+    reader = fresh;
+    reader.phase = RIMEMAGPIE_CARD_FAULT + 1;
+    state_refused(&reader, card);
+}
+
+/* Spare rows with room for one row hold the first; sizes that disagree are refused. */
+static void little_room(const uint8_t *card, struct book book)
+{
+    struct book spare = empty_book(), read = empty_book(), empty = empty_book();
+    struct rimemagpie_card_reader reader;
+    uint64_t rows = 7;
+
+    rimemagpie_card_reader_begin(&reader);
+    EXPECT(rimemagpie_card_reader_feed(&reader, card, NEW_SIZE, spare.ids, 1, spare.lengths, 1, spare.store, 128,
+                                       spare.marks, 1, spare.received, 1, spare.sent, 1) == RIMEMAGPIE_UNSOUND_BOOK);
+    EXPECT(reader.phase == RIMEMAGPIE_CARD_READING && reader.read == 0);
+    EXPECT(rimemagpie_card_reader_feed(&reader, card, NEW_SIZE, spare.ids, 1, spare.lengths, 1, spare.store, 64,
+                                       spare.marks, 1, spare.received, 1, spare.sent, 1) == RIMEMAGPIE_DONE);
+    EXPECT(reader.phase == RIMEMAGPIE_CARD_CLOSED && reader.form == RIMEMAGPIE_CARD_NEW && reader.read == 2);
+    EXPECT(rimemagpie_card_reader_finish(&reader, spare.ids, 1, spare.lengths, 1, spare.store, 64, spare.marks, 1,
+                                         spare.received, 1, spare.sent, 1, LENT(read), &rows) == RIMEMAGPIE_UNSOUND_BOOK);
+    EXPECT(rimemagpie_card_reader_finish(&reader, spare.ids, 1, spare.lengths, 1, spare.store, 64, spare.marks, 1,
+                                         spare.received, 1, spare.sent, 1, read.ids, 1, read.lengths, 1, read.store, 64,
+                                         read.marks, 1, read.received, 1, read.sent, 1,
+                                         &rows) == RIMEMAGPIE_NO_ROOM_FOR_ROWS);
+    EXPECT(rows == 7 && spare.ids[0] == book.ids[0] && spare.lengths[0] == book.lengths[0]);
+    EXPECT(memcmp(spare.store, book.store, 64) == 0 && spare.marks[0] == book.marks[0]);
+    spare.ids[0] = 0;
+    spare.lengths[0] = 0;
+    memset(spare.store, 0, 64);
+    spare.marks[0] = 0;
+    expect_same(spare, empty);
+    expect_same(read, empty);
+    free_book(spare);
+    free_book(read);
+    free_book(empty);
+}
+
+/* The book's card in pieces: cut at each byte, and cut short and then in two; and what is refused. */
+static void pieces(struct book book)
+{
+    uint8_t *card = (uint8_t *)calloc(NEW_SIZE, 1);
+    uint64_t size = 7;
+
+    EXPECT(card != NULL);
+    EXPECT(rimemagpie_card_write(LENT(book), 2, card, NEW_SIZE, &size) == RIMEMAGPIE_DONE && size == NEW_SIZE);
+    for (size_t cut = 0; cut <= NEW_SIZE; cut++)
+        read_cut_at(card, NEW_SIZE, cut, RIMEMAGPIE_DONE);
+    for (size_t end = 0; end < NEW_SIZE; end++)
+        read_cut_at(card, end, end / 2, RIMEMAGPIE_MALFORMED_CARD);
+    states_refused(card);
+    little_room(card, book);
+    free(card);
+}
+
 /* Every function that takes a message, with options 90 and 82 at these two places of it. */
 static void messages(size_t authentication_at, size_t relay_agent_at)
 {
@@ -520,6 +700,7 @@ int main(void)
     messages(240, 273);
     messages(246, 240);
     cards(book);
+    pieces(book);
     moves(book);
     judgements();
     free_book(book);

@@ -284,7 +284,7 @@ fn written_again(book: &Book, rows: usize, card: &[u8]) -> Result<(), Difference
 
 /// A card that the library moves to a form, which it must.
 fn moved_by_library(wanted: Form, card: &[u8]) -> Result<Vec<u8>, Difference> {
-    let mut room = vec![0; 5_702];
+    let mut room = vec![0; 22_790];
     let mut size = 0;
     let number = move_to(wanted, card, &mut room, &mut size);
     same("the number on moving it", &0, &number)?;
@@ -308,7 +308,7 @@ fn room_for_card(random: &mut Random, card: &[u8]) -> Book {
         0..=3 => rows.saturating_sub(random.within(1..=3)),
         4..=9 => rows,
         10..=17 => rows + random.within(0..=5),
-        18 => 64,
+        18 => random.pick(&[64, 256]),
         _ => random.pick(&[1_024, 1_025]),
     };
     let mut book = books::with_rows(random, room, 0);
@@ -374,7 +374,7 @@ fn room_about(random: &mut Random, size: usize) -> Vec<u8> {
         0..=1 => size - 1,
         2..=3 => size,
         4..=5 => size + random.within(1..=100),
-        6 => random.pick(&[5_638, 5_702]),
+        6 => random.pick(&[22_534, 22_790]),
         _ => random.within(0..=size),
     };
     random.bytes(room)

@@ -133,9 +133,9 @@ fn refused_7() {
 /// The largest card in either form, of which all rows are heard.
 #[test]
 fn rows_and_counters_are_written_in_full() {
-    let mut rows: Vec<Row> = (0..64).map(|id| Row::heard(id, &[9; 64], 0)).collect();
-    rows[63].received = u64::MAX - 1;
-    for (form, size) in [(Form::Old, 5_638), (Form::New, 5_702)] {
+    let mut rows: Vec<Row> = (0..256).map(|id| Row::heard(id, &[9; 64], 0)).collect();
+    rows[255].received = u64::MAX - 1;
+    for (form, size) in [(Form::Old, 22_534), (Form::New, 22_790)] {
         let card = card_of_rows(form, &rows);
         assert_eq!(card.len(), size);
         judged_in_full(&card);
@@ -147,18 +147,18 @@ fn rows_and_counters_are_written_in_full() {
 /// The largest card with rows that are not heard.
 #[test]
 fn the_largest_card_not_heard() {
-    let rows: Vec<Row> = (0..64).map(|id| Row::new(id, &[9; 64])).collect();
+    let rows: Vec<Row> = (0..256).map(|id| Row::new(id, &[9; 64])).collect();
     let card = card_of_rows(Form::New, &rows);
-    assert_eq!(card.len(), 5_702);
+    assert_eq!(card.len(), 22_790);
     judged_in_full(&card);
     let zero = messages::signed(&[9; 64], 5, 0);
     assert_eq!(judged_files(&card, &zero), "accepted row 5 counter 0\n");
 }
 
-/// Messages that a card of 64 rows accepts, with the longest line among them.
+/// Messages that a card of 256 rows accepts, with the longest line among them.
 fn judged_in_full(card: &[u8]) {
-    let last = messages::signed(&[9; 64], 63, u64::MAX);
-    let line = "accepted row 63 counter 18446744073709551615\n";
+    let last = messages::signed(&[9; 64], 255, u64::MAX);
+    let line = "accepted row 255 counter 18446744073709551615\n";
     assert_eq!(judged_files(card, &last), line);
     let first = messages::signed(&[9; 64], 0, 1);
     assert_eq!(judged_files(card, &first), "accepted row 0 counter 1\n");
@@ -188,8 +188,8 @@ fn the_card_is_judged_first() {
     for message in messages {
         assert_eq!(judged(At::File(&longer), message), "refused 15\n");
     }
-    let with_65_rows = Form::BOTH.map(cards::of_65_rows);
-    for card in with_65_rows.into_iter().chain(cards::wrongly_marked()) {
+    let with_257_rows = Form::BOTH.map(cards::of_257_rows);
+    for card in with_257_rows.into_iter().chain(cards::wrongly_marked()) {
         assert_eq!(judged_files(&card, &accepted_by_b()), "refused 15\n");
     }
 }

@@ -253,12 +253,12 @@ fn very_many_records_of_empty_frames() {
 /// the lines end at other places each time.
 #[test]
 fn rows_and_counters_are_written_in_full() {
-    let rows: Vec<Row> = (0..64).map(|id| Row::new(id, &[9; 64])).collect();
+    let rows: Vec<Row> = (0..256).map(|id| Row::new(id, &[9; 64])).collect();
     let card = card_of_rows(Form::New, &rows);
-    let counters = u64::MAX - 23..=u64::MAX;
+    let counters = u64::MAX - 5..=u64::MAX;
     let frames = counters.flat_map(|counter| {
         let message = move |id| messages::signed(&[9; 64], id, counter);
-        (0..64).map(move |id| Draft::around(&message(id)).bytes())
+        (0..256).map(move |id| Draft::around(&message(id)).bytes())
     });
     let long: Vec<Record> = frames.map(Record::of).collect();
     for short in 0..=60 {
@@ -268,7 +268,7 @@ fn rows_and_counters_are_written_in_full() {
         let text = text.unwrap_or_else(|difference| panic!("{difference}"));
         assert!(text.len() > 65_536);
         let last = records.len();
-        let end = format!("\n{last} accepted row 63 counter 18446744073709551615\n");
+        let end = format!("\n{last} accepted row 255 counter 18446744073709551615\n");
         assert!(text.ends_with(&end), "{short} short lines");
     }
 }
@@ -284,9 +284,9 @@ fn captures_without_a_record() {
 fn unreadable_card() {
     let [capture, _] = recordings_of_b();
     let longer = [&NEW_CARD_B[..], &[0]].concat();
-    let rows_65 = Form::BOTH.map(cards::of_65_rows);
+    let rows_257 = Form::BOTH.map(cards::of_257_rows);
     let wrongly_marked = cards::wrongly_marked();
-    let refused = rows_65.iter().chain(&wrongly_marked);
+    let refused = rows_257.iter().chain(&wrongly_marked);
     let (largest, above) = (vec![0; 65_535], vec![0; 65_536]);
     let cards = [
         At::Nothing,

@@ -120,13 +120,17 @@ fn marks_are_the_same_in_rattle_c_and_rust() {
     }
 }
 
+/// The constants of a byte of a file that are named so.
+fn bytes_in(path: &str, names: &[&str]) -> Vec<Named> {
+    let mut named = marks_in(path);
+    named.retain(|(name, _)| names.contains(&name.as_str()));
+    assert_eq!(named.len(), names.len(), "{path}");
+    named
+}
+
 /// The marks of server rows of a file, among its constants of a byte.
 fn server_marks_in(path: &str) -> Vec<Named> {
-    let names = ["NONE_YET", "NOT_HEARD", "HEARD"];
-    let mut marks = marks_in(path);
-    marks.retain(|(name, _)| names.contains(&name.as_str()));
-    assert_eq!(marks.len(), names.len(), "{path}");
-    marks
+    bytes_in(path, &["NONE_YET", "NOT_HEARD", "HEARD"])
 }
 
 /// In C their names begin with `SERVER_`, since they are not a book's.
@@ -144,14 +148,50 @@ fn marks_of_server_rows_are_the_same_in_rattle_c_and_rust() {
     assert_eq!(enum_in_header("rimemagpie_server_mark"), marks);
 }
 
-/// The header numbers nothing but answers and marks.
+/// The phases of reading in pieces, and the forms of its rows: in C their names begin with `CARD_`.
 #[test]
-fn each_number_of_the_header_is_an_answer_or_a_mark() {
+fn phases_and_forms_are_the_same_in_rattle_c_and_rust() {
+    let second = "tests/reference/src/card_pieces.rs";
+    let in_c = |(name, number): Named| (format!("CARD_{name}"), number);
+    let phases = bytes_in(second, &["READING", "CLOSED", "FAULT"]);
+    let rattle = named_in(
+        &text_of("crates/card_pieces/specs/Numbers.antt"),
+        ["phaseNumber ", " = ", ""],
+    );
+    let upper = |(name, number): &Named| (name.to_uppercase(), *number);
+    assert_eq!(rattle.iter().map(upper).collect::<Vec<_>>(), phases);
+    let phases: Vec<Named> = phases.into_iter().map(in_c).collect();
+    assert_eq!(enum_in_header("rimemagpie_card_phase"), phases);
+    let forms = bytes_in(second, &["NO_ROW", "OLD", "NEW"]);
+    let rattle = named_in(
+        &text_of("crates/book_card/specs/Layout.antt"),
+        ["rowKind ", " = ", ""],
+    );
+    assert_eq!(rattle.iter().map(upper).collect::<Vec<_>>(), forms[1..]);
+    let forms: Vec<Named> = forms.into_iter().map(in_c).collect();
+    assert_eq!(enum_in_header("rimemagpie_card_form"), forms);
+}
+
+/// The most bytes of a tail.
+#[test]
+fn a_tail_has_the_same_size_in_c_and_rust() {
+    let most = enum_in_header("rimemagpie_card_tail");
+    assert_eq!(most, [("CARD_TAIL_MOST".to_string(), 88)]);
+    assert_eq!(rimemagpie::card_pieces::TAIL_MOST, 88);
+    assert_eq!(reference::card_pieces::TAIL_MOST, 88);
+}
+
+/// The header numbers nothing but answers, marks, and what is in a reader's state.
+#[test]
+fn each_number_of_the_header_is_named_here() {
     let all = named_in(&text_of("include/rimemagpie.h"), IN_HEADER);
     let enums = [
         "rimemagpie_number",
         "rimemagpie_mark",
         "rimemagpie_server_mark",
+        "rimemagpie_card_form",
+        "rimemagpie_card_phase",
+        "rimemagpie_card_tail",
     ];
     assert_eq!(all, enums.map(enum_in_header).concat());
 }
@@ -186,23 +226,82 @@ fn parameters_are_the_same_in_rattle_c_and_rust() {
     let entries = entries_in(
         &rattle,
         "pub extern \"C\" fn rimemagpie_",
-        ") -> u8",
+        ")",
         name_in_rust,
     );
-    assert_eq!(entries.len(), 10);
+    assert_eq!(entries.len(), 13);
     let in_order = |mut entries: Vec<Vec<String>>| {
         entries.sort();
         entries
     };
     let entries = in_order(entries);
-    let header = text_of("include/rimemagpie.h");
-    let in_c = entries_in(&header, "uint8_t rimemagpie_", ");", name_in_c);
-    assert_eq!(in_order(in_c), entries);
+    assert_eq!(in_order(entries_in_header()), entries);
     let wrapper = text_of("rust/src/c.rs");
-    let declared = entries_in(&wrapper, "pub fn rimemagpie_", ") -> u8", name_in_rust);
+    let declared = entries_in(&wrapper, "pub fn rimemagpie_", ")", name_in_rust);
     assert_eq!(in_order(declared), entries);
-    let safe = entries_in(&wrapper, "\npub fn ", ") -> u8", name_in_rust);
+    let safe = entries_in(&wrapper, "\npub fn ", ")", name_in_rust);
     assert_eq!(in_order(safe), entries);
+}
+
+/// The entries that the header declares: what begins a line with what is returned. (Its inline
+/// functions begin with `static`.)
+fn entries_in_header() -> Vec<Vec<String>> {
+    let header = text_of("include/rimemagpie.h");
+    let returning =
+        |what: &str| entries_in(&header, &format!("\n{what} rimemagpie_"), ")", name_in_c);
+    [returning("uint8_t"), returning("void")].concat()
+}
+
+/// The state of a reader has the same parts in the same order, as entries are lent them, in the
+/// header's struct, and in Rust.
+#[test]
+fn a_reader_has_the_same_parts_in_the_same_order() {
+    let parts = ["tail", "kept", "read", "low", "form", "phase"].map(String::from);
+    assert_eq!(entries_with(&parts), 3);
+    let second = "tests/reference/src/card_pieces.rs";
+    assert_eq!(fields_of("CardReader", second), parts);
+    let header = text_of("include/rimemagpie.h");
+    let (_, fields) = header
+        .split_once("struct rimemagpie_card_reader {")
+        .expect("the header has the struct");
+    let lines = fields.lines().skip(1).take_while(|line| *line != "};");
+    let fields: Vec<&str> = lines
+        .map(|line| name_in_c(line.trim_end_matches(';')))
+        .collect();
+    assert_eq!(fields, parts);
+}
+
+/// Each inline function of the header has the entry's parameters, but the reader for its state's
+/// parts, and passes all of them on in the entry's order.
+#[test]
+fn inline_functions_pass_the_entries_parameters() {
+    let header = text_of("include/rimemagpie.h");
+    let entries = entries_in_header();
+    let start = "rimemagpie_card_reader_";
+    let mut seen = 0;
+    for text in header.split("\nstatic inline ").skip(1) {
+        let (declared, behind) = text.split_once(')').expect("a function has parameters");
+        let (name, list) = declared.split_once('(').expect("and a name");
+        let name = name.split_once(start).expect("it is a reader's").1;
+        let lent = list.split(',').skip(1).map(|p| name_in_c(p.trim()));
+        let entry = format!("card_{name}");
+        let passed = behind.split_once(&format!("rimemagpie_{entry}(")).unwrap();
+        let passed = passed.1.split_once(')').unwrap().0.split(',');
+        let passed: Vec<&str> = passed.map(|p| p.trim().trim_start_matches('&')).collect();
+        let state = ["tail", "kept", "read", "low", "form", "phase"];
+        let of_reader = state.map(|part| format!("reader->{part}"));
+        let expected: Vec<String> = of_reader
+            .into_iter()
+            .chain(lent.map(String::from))
+            .collect();
+        assert_eq!(passed, expected, "{entry}");
+        let named = expected.iter().filter(|p| !p.ends_with("_len"));
+        let named: Vec<&str> = named.map(|p| p.trim_start_matches("reader->")).collect();
+        let declared = entries.iter().find(|e| e[0] == entry).unwrap();
+        assert_eq!(declared[1..], named, "{entry}");
+        seen += 1;
+    }
+    assert_eq!(seen, 3);
 }
 
 /// The parts of the book or of the server rows, in the order of the rules' table with this heading:
@@ -238,9 +337,8 @@ fn fields_of(name: &str, path: &str) -> Vec<String> {
 
 /// In how many entries of the header the parts stand, in this order.
 fn entries_with(parts: &[String]) -> usize {
-    let header = text_of("include/rimemagpie.h");
     let mut lent = 0;
-    for entry in entries_in(&header, "uint8_t rimemagpie_", ");", name_in_c) {
+    for entry in entries_in_header() {
         if let Some(at) = entry.iter().position(|name| *name == parts[0]) {
             assert_eq!(entry[at..at + parts.len()], *parts, "{}", entry[0]);
             lent += 1;
@@ -256,7 +354,12 @@ fn the_book_has_the_same_parts_in_the_same_order() {
     for path in ["rust/src/lib.rs", "tests/reference/src/book.rs"] {
         assert_eq!(fields_of("Book", path), parts, "{path}");
     }
-    assert_eq!(entries_with(&parts), 5);
+    // The spare rows of a piece are the six buffers alone; at the end they are named so.
+    assert_eq!(entries_with(&parts[..6]), 7);
+    let has_rows = |entry: &&Vec<String>| entry.windows(2).any(|pair| *pair == parts[5..]);
+    assert_eq!(entries_in_header().iter().filter(has_rows).count(), 6);
+    let spare = parts[..6].iter().map(|part| format!("spare_{part}"));
+    assert_eq!(entries_with(&spare.collect::<Vec<_>>()), 1);
 }
 
 #[test]

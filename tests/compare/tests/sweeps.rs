@@ -1,7 +1,7 @@
 //! Every value of one thing at a time, where there are few enough to try them all: each bit of a
 //! message and of a card, each length of a digest, of a message, of option 90 and of option 82, each
-//! place of option 82, each mark, each kind of a row and each room for a card. No number is drawn
-//! here.
+//! place of option 82, each mark, each row of a book, each kind of a row and each room for a card. No
+//! number is drawn here.
 
 use compare::generate::{books, messages};
 use compare::runs::{lend, Implementation, Library, Reference};
@@ -464,6 +464,40 @@ fn book_of_three() -> Book {
     book.store[64..68].copy_from_slice(&[1, 2, 3, 4]);
     book.rows = 3;
     book
+}
+
+/// So many rows in use and nine more, all with book B's key; row k has the id 2k + 1.
+fn book_of_odd_ids(rows: usize) -> Book {
+    let mut book = Book::with_room(rows + 9);
+    for (row, id) in book.ids.iter_mut().enumerate() {
+        *id = 2 * row as u32 + 1;
+    }
+    book.lengths.fill(4);
+    for slot in book.store.chunks_mut(64) {
+        slot[..4].copy_from_slice(&[1, 2, 3, 4]);
+    }
+    book.rows = rows;
+    book
+}
+
+/// Each id of a book is found at its row, and none that lies between two, before the first or behind
+/// the last, those of rows that are not in use among them.
+#[test]
+fn each_row_of_a_book() {
+    for rows in (0..=20).chain([63, 64, 65, 255, 256]) {
+        let book = book_of_odd_ids(rows);
+        for id in 0..2 * (rows + 9) {
+            let expected = match id % 2 == 1 && id / 2 < rows {
+                true => Ok(Accepted {
+                    row: id / 2,
+                    counter: 1,
+                }),
+                false => Err(10),
+            };
+            let message = messages::signed(&[1, 2, 3, 4], id as u32, 1);
+            assert_eq!(answer(&book, &message), expected, "{id} of {rows} rows");
+        }
+    }
 }
 
 /// A message with this counter that book B's key signs.

@@ -169,10 +169,10 @@ fn same_moved(card: &[u8], expected: reference::Form, wanted: Form) -> Result<()
 /// The room that the wrapper names as enough for any card is just enough for the largest.
 #[test]
 fn the_largest_card() {
-    let mut book = Book::with_room(64);
-    book.ids = (0..64).collect();
+    let mut book = Book::with_room(256);
+    book.ids = (0..256).collect();
     book.lengths.fill(64);
-    book.rows = 64;
+    book.rows = 256;
     let mut room = [0; rimemagpie::CARD_MOST];
     let lent = lend(&mut book);
     assert_eq!(lent.card_write(&mut room), Ok(room.len()));

@@ -3,7 +3,7 @@
 use std::ops::Range;
 
 /// The most rows in use, the bytes of a key slot, and the most rows there may be room for.
-pub const ROWS_MOST: usize = 64;
+pub const ROWS_MOST: usize = 256;
 pub const SLOT: usize = 64;
 pub const ROOM_MOST: usize = 1_024;
 
@@ -171,9 +171,9 @@ mod tests {
     }
 
     #[test]
-    fn at_most_1024_rows_of_room_and_64_in_use() {
-        assert!(room_for(1_024, 64).is_sound());
-        assert!(!room_for(1_025, 64).is_sound());
-        assert!(!room_for(1_024, 65).is_sound());
+    fn at_most_1024_rows_of_room_and_256_in_use() {
+        assert!(room_for(1_024, 256).is_sound());
+        assert!(!room_for(1_025, 256).is_sound());
+        assert!(!room_for(1_024, 257).is_sound());
     }
 }

@@ -243,7 +243,7 @@ mod tests {
 
     #[test]
     fn rows_come_back() {
-        for (count, key_length) in [(0, 1), (1, 1), (3, 64), (64, 64)] {
+        for (count, key_length) in [(0, 1), (1, 1), (3, 64), (64, 64), (256, 64)] {
             for form in Form::BOTH {
                 let rows = rows(count, key_length);
                 assert_eq!(rows_of_card(&card_of_rows(form, &rows)), Some(rows));
@@ -251,8 +251,8 @@ mod tests {
             let rows = some_not_heard(count, key_length);
             assert_eq!(rows_of_card(&card_of_rows(Form::New, &rows)), Some(rows));
         }
-        assert_eq!(card_of_rows(Form::Old, &rows(64, 64)).len(), 5_638);
-        assert_eq!(card_of_rows(Form::New, &rows(64, 64)).len(), 5_702);
+        assert_eq!(card_of_rows(Form::Old, &rows(256, 64)).len(), 22_534);
+        assert_eq!(card_of_rows(Form::New, &rows(256, 64)).len(), 22_790);
     }
 
     /// What a record's length counts, at its least and its most.
@@ -271,7 +271,7 @@ mod tests {
     fn malformed_cards() {
         for form in Form::BOTH {
             let card_of_rows = |rows: &[Row]| card_of_rows(form, rows);
-            assert_eq!(rows_of_card(&card_of_rows(&rows(65, 1))), None);
+            assert_eq!(rows_of_card(&card_of_rows(&rows(257, 1))), None);
             assert_eq!(rows_of_card(&card_of_rows(&rows(2, 0))), None);
             assert_eq!(rows_of_card(&card_of_rows(&rows(2, 65))), None);
             let mut same_id = rows(2, 3);
@@ -371,7 +371,7 @@ mod tests {
 
     #[test]
     fn cards_are_moved() {
-        for count in [0, 1, 3, 64] {
+        for count in [0, 1, 3, 64, 256] {
             let rows = rows(count, 5);
             for from in Form::BOTH {
                 move_and_back(&rows, from, Form::Old);

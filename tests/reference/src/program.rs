@@ -5,7 +5,7 @@ use crate::book::{Book, ROWS_MOST};
 use crate::card::card_read;
 use crate::refusal::Refusal;
 
-/// The book on a card, read into room for 64 rows.
+/// The book on a card, read into room for 256 rows.
 pub fn book_of_card(card: &[u8]) -> Result<Book, Refusal> {
     let mut book = Book::with_room(ROWS_MOST);
     book.rows = card_read(card, &mut book)?;

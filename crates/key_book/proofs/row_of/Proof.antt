@@ -4,7 +4,7 @@ use borrow.Author.Needs.{needs}
 use native.Mathlib.Omega.{arith}
 use Prim.Native.Nat.{_-_}
 use lib.ListN.{length}
-use Rattle.key_book.proofs.Answers.{Searched, search-start, search-none, search-here, search-on}
+use Rattle.key_book.proofs.Answers.{Searched, search-none, search-here, search-on}
 use Rattle.key_book.proofs.row_of.Statement.{statement}
 use Rattle.key_book.proofs.row_of.Tie as tie
 
@@ -32,7 +32,8 @@ row-of-spec =
     (tie.spec
     Inv-loop
     μ-loop
-    (λ c. search-start _ _)
+    (λ c κs. tt)
+    (λ c. let e = c .passed-over .ensures in record { within = e .0; others = e .1 })
     returns
     (λ c. omega arith)
     (λ c. omega arith)

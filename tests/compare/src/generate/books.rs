@@ -9,7 +9,8 @@ pub fn sound(random: &mut Random) -> Book {
     let room = match random.below(100) {
         0..=59 => random.within(0..=8),
         60..=91 => random.within(9..=80),
-        92..=95 => ROWS_MOST,
+        92..=93 => random.pick(&[64, ROWS_MOST]),
+        94..=95 => ROWS_MOST,
         96..=97 => random.within(81..=ROOM_MOST),
         _ => ROOM_MOST,
     };
@@ -154,7 +155,7 @@ pub enum Fault {
     SentSize,
     RoomAbove1024,
     RowsAboveRoom,
-    RowsAbove64,
+    RowsAbove256,
     RowsHuge,
     IdRepeated,
     IdsOutOfOrder,
@@ -174,7 +175,7 @@ impl Fault {
         Fault::SentSize,
         Fault::RoomAbove1024,
         Fault::RowsAboveRoom,
-        Fault::RowsAbove64,
+        Fault::RowsAbove256,
         Fault::RowsHuge,
         Fault::IdRepeated,
         Fault::IdsOutOfOrder,
@@ -231,12 +232,12 @@ pub fn spoil_by(random: &mut Random, book: &mut Book, fault: Fault) {
             *book = with_rows(random, room, book.rows);
         }
         Fault::RowsAboveRoom => {
-            // The room is below 64 rows, so that nothing else is wrong.
+            // The room is below 256 rows, so that nothing else is wrong.
             let room = random.within(0..=ROWS_MOST - 1);
             *book = with_rows(random, room, room);
             book.rows = random.within(room + 1..=ROWS_MOST);
         }
-        Fault::RowsAbove64 => {
+        Fault::RowsAbove256 => {
             let room = random.within(ROWS_MOST + 1..=ROWS_MOST + 40);
             let rows = random.within(ROWS_MOST + 1..=room);
             *book = with_rows(random, room, rows);
@@ -325,8 +326,8 @@ mod tests {
         }),
         ("the first heard alone", |b| in_use(b) == [HEARD, NOT_HEARD]),
         ("the last heard alone", |b| in_use(b) == [NOT_HEARD, HEARD]),
-        ("64 rows, all heard", |b| in_use(b) == [HEARD; 64]),
-        ("64 rows, none heard", |b| in_use(b) == [NOT_HEARD; 64]),
+        ("256 rows, all heard", |b| in_use(b) == [HEARD; 256]),
+        ("256 rows, none heard", |b| in_use(b) == [NOT_HEARD; 256]),
         ("a heard row with counter 0", |b| {
             has(b, 0..b.rows, |mark, counter| mark == HEARD && counter == 0)
         }),
@@ -354,8 +355,8 @@ mod tests {
         }),
         ("255", |b| in_use(b).contains(&255)),
         ("128", |b| in_use(b).contains(&128)),
-        ("a byte above 1 in the last of 64 rows", |b| {
-            b.rows == 64 && b.marks[63] > HEARD
+        ("a byte above 1 in the last of 256 rows", |b| {
+            b.rows == 256 && b.marks[255] > HEARD
         }),
         ("counter 1 in the first row, not heard", |b| {
             has(b, 0..1, |mark, counter| mark == NOT_HEARD && counter == 1)
@@ -370,8 +371,8 @@ mod tests {
                 mark == NOT_HEARD && counter == 1 << 63
             })
         }),
-        ("a wrong counter in the last of 64 rows", |b| {
-            b.rows == 64 && b.marks[63] == NOT_HEARD && b.received[63] != 0
+        ("a wrong counter in the last of 256 rows", |b| {
+            b.rows == 256 && b.marks[255] == NOT_HEARD && b.received[255] != 0
         }),
     ];
 

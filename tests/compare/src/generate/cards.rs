@@ -63,22 +63,23 @@ pub fn wrongly_marked() -> [Vec<u8>; 4] {
 }
 
 /// A card with a row too many and nothing else wrong.
-pub fn of_65_rows(form: Form) -> Vec<u8> {
-    let rows: Vec<Row> = (0..65).map(|id| Row::new(id, &[1])).collect();
+pub fn of_257_rows(form: Form) -> Vec<u8> {
+    let rows: Vec<Row> = (0..257).map(|id| Row::new(id, &[1])).collect();
     card_of_rows(form, &rows)
 }
 
-/// Rows in order, none to 64 of them.
+/// Rows in order, none to 256 of them.
 pub fn some_rows(random: &mut Random) -> Vec<Row> {
     let count = row_count(random, 0);
     rows(random, count)
 }
 
-/// How many rows a card has, at least so many: mostly few, now and then up to 64.
+/// How many rows a card has, at least so many: mostly few, now and then up to 256.
 fn row_count(random: &mut Random, least: usize) -> usize {
     match random.below(10) {
         0 => ROWS_MOST,
         1 => random.within(least..=ROWS_MOST),
+        2 => random.within(least..=64),
         _ => random.within(least..=6),
     }
 }
@@ -237,7 +238,7 @@ fn spoil_rows(random: &mut Random, rows: &mut Vec<Row>, fault: Fault) {
             rows[at].key.resize(length, 9);
         }
         Fault::RowTooMany => {
-            let count = random.pick(&[ROWS_MOST + 1, ROWS_MOST + 1, 100]);
+            let count = random.pick(&[ROWS_MOST + 1, ROWS_MOST + 1, 300]);
             *rows = self::rows(random, count);
         }
         Fault::MarkAbove1 => {
@@ -280,7 +281,8 @@ fn spoil_records(random: &mut Random, records: &mut Vec<Vec<u8>>, fault: Fault, 
             records[last] = record(KIND_CLOSE, &other.to_le_bytes());
         }
         Fault::CloseLength => {
-            let body = [last as u8, 0, 0];
+            let [low, high] = (last as u16).to_le_bytes();
+            let body = [low, high, 0];
             let length = random.pick(&[0, 1, 3]);
             records[last] = record(KIND_CLOSE, &body[..length]);
         }
@@ -386,15 +388,15 @@ mod tests {
         new_rows.collect()
     }
 
-    /// Whether 64 rows have these kinds: all but the last, and the last.
+    /// Whether 256 rows have these kinds: all but the last, and the last.
     fn ends_in_another_kind(card: &[u8], others: u16, last: u16) -> bool {
-        kinds(card) == [[others; 63].as_slice(), &[last]].concat()
+        kinds(card) == [[others; 255].as_slice(), &[last]].concat()
     }
 
-    /// The last of 64 new rows: its mark and its received counter.
-    fn last_of_64(card: &[u8]) -> Option<(u8, u64)> {
+    /// The last of 256 new rows: its mark and its received counter.
+    fn last_of_256(card: &[u8]) -> Option<(u8, u64)> {
         let marked = marked(card);
-        (marked.len() == 64).then(|| marked[63])
+        (marked.len() == 256).then(|| marked[255])
     }
 
     type Situation = (&'static str, fn(&[u8]) -> bool);
@@ -405,8 +407,8 @@ mod tests {
         ("an old card", |card| {
             marks(card).is_some() && kinds(card).contains(&KIND_OLD_ROW)
         }),
-        ("an old card of 64 rows", |card| {
-            marks(card).is_some() && kinds(card) == [KIND_OLD_ROW; 64]
+        ("an old card of 256 rows", |card| {
+            marks(card).is_some() && kinds(card) == [KIND_OLD_ROW; 256]
         }),
         ("an old card with a received counter 0", |card| {
             let rows = rows_of_card(card).unwrap_or_default();
@@ -424,11 +426,11 @@ mod tests {
         ("a new card, the last row not heard", |card| {
             marks(card) == Some(vec![HEARD, NOT_HEARD])
         }),
-        ("a new card of 64 rows, all heard", |card| {
-            kinds(card) == [KIND_NEW_ROW; 64] && marks(card) == Some(vec![HEARD; 64])
+        ("a new card of 256 rows, all heard", |card| {
+            kinds(card) == [KIND_NEW_ROW; 256] && marks(card) == Some(vec![HEARD; 256])
         }),
-        ("a new card of 64 rows, some not heard", |card| {
-            marks(card).is_some_and(|m| m.len() == 64 && m.contains(&NOT_HEARD))
+        ("a new card of 256 rows, some not heard", |card| {
+            marks(card).is_some_and(|m| m.len() == 256 && m.contains(&NOT_HEARD))
         }),
         ("a heard row with counter 0 on a new card", |card| {
             marks(card).is_some() && marked(card).contains(&(HEARD, 0))
@@ -449,17 +451,17 @@ mod tests {
         ("counter 1 on a row not heard", |card| {
             marked(card).contains(&(NOT_HEARD, 1))
         }),
-        ("the last of 64 rows old, the others new", |card| {
+        ("the last of 256 rows old, the others new", |card| {
             ends_in_another_kind(card, KIND_NEW_ROW, KIND_OLD_ROW)
         }),
-        ("the last of 64 rows new, the others old", |card| {
+        ("the last of 256 rows new, the others old", |card| {
             ends_in_another_kind(card, KIND_OLD_ROW, KIND_NEW_ROW)
         }),
-        ("a mark of 2 in the last of 64 rows", |card| {
-            last_of_64(card).is_some_and(|(mark, _)| mark == 2)
+        ("a mark of 2 in the last of 256 rows", |card| {
+            last_of_256(card).is_some_and(|(mark, _)| mark == 2)
         }),
-        ("a counter in the last of 64 rows, not heard", |card| {
-            last_of_64(card).is_some_and(|(mark, counter)| mark == NOT_HEARD && counter != 0)
+        ("a counter in the last of 256 rows, not heard", |card| {
+            last_of_256(card).is_some_and(|(mark, counter)| mark == NOT_HEARD && counter != 0)
         }),
     ];
 

@@ -1,4 +1,5 @@
-//! Seeded inputs: key books, server rows, messages, cards, frames and captures, sound and spoiled.
+//! Seeded inputs: key books, server rows, messages, cards, their pieces, frames and captures, sound
+//! and spoiled.
 
 pub mod books;
 pub mod captures;
@@ -7,6 +8,7 @@ pub mod drafts;
 pub mod forcerenew;
 pub mod frames;
 pub mod messages;
+pub mod pieces;
 pub mod relays;
 pub mod servers;
 #[cfg(test)]

@@ -69,6 +69,6 @@ all-heard-spec =
     tie.close
     (tie.spec
     Inv-loop μ-loop (λ c κs. search needs) loop-holds
-    (λ c κs. c .before .loop .inv .walk .at-within) (λ c. search needs) returns returns-2 (λ c. omega (arith, its (c .before .before) .long))
+    (λ c κs. search needs) (λ c. search needs) returns returns-2 (λ c. omega (arith, its (c .before .before) .long))
     (λ c. omega (arith, its (c .before .before) .long)) (λ c. omega arith) (λ c. omega arith) loop-again
     (λ c. hearing-end (c .before .loop .inv) (c .loop-test .left)))

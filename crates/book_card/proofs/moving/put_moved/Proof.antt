@@ -84,7 +84,7 @@ put-moved-spec =
     tie.close
     (tie.spec
     Inv-loop μ-loop (λ c κs. search needs) loop-holds
-    (λ c κs. c .before .loop .inv .walk .at-within) (λ c. search needs) (λ c. omega arith) returns (λ c. omega (arith, its (c .before) .long))
+    (λ c κs. search needs) (λ c. search needs) (λ c. omega arith) returns (λ c. omega (arith, its (c .before) .long))
     (λ c. omega (arith, its (c .before) .long)) (λ c. omega arith) (λ c. omega arith) (λ c. omega (arith, its (c .before) .long)) put-record-requires add-to
     (λ c. omega arith) (λ c. omega arith) loop-again (λ c κs. copying-close (c .before .before .loop .inv) (c .before .loop-test .left)) (λ c. search needs)
     (λ c. copying-end (c .before .before .before .before .before .loop .inv) (c .before .before .before .before .loop-test .left) _

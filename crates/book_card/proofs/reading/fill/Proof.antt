@@ -81,7 +81,7 @@ fill-spec =
     tie.close
     (tie.spec
     Inv-loop μ-loop (λ c κs. search needs) loop-holds
-    (λ c κs. c .before .loop .inv .walk .at-within) (λ c. search needs) (λ c. omega arith) (λ c. omega arith) (λ c. omega arith) (λ c. omega arith)
+    (λ c κs. search needs) (λ c. search needs) (λ c. omega arith) (λ c. omega arith) (λ c. omega arith) (λ c. omega arith)
     (λ c. omega arith) (λ c. omega arith) returns (λ c. omega (arith, its (c .before) .long)) (λ c. omega (arith, its (c .before) .long)) (λ c. omega arith)
     (λ c. omega arith) (λ c. omega (arith, its (c .before) .long)) set-row-requires (λ c. omega arith) (λ c. omega arith) loop-again (λ c. omega arith)
     (λ c. omega arith) (λ c. omega arith) (λ c. omega arith) (λ c. omega arith) (λ c. omega arith)

@@ -1,0 +1,15 @@
+pub mod Spare
+pub mod Limits
+pub mod Runs
+pub mod Passing
+pub mod Going
+pub mod Behind
+pub mod Parts
+pub mod Copying
+pub mod Finishes
+pub mod Joins
+pub mod Feeding
+pub mod Depends
+pub mod Good
+pub mod Cuttings
+pub mod Computed
