@@ -1,7 +1,7 @@
 /*
  * Times the library beside OpenSSL: MD5, HMAC-MD5, a whole check, a whole seal and a whole judgement of a FORCERENEW, and
- * MD5's work on one block, written out and by tables. Then a check and a seal beside the HMAC-MD5 that they contain, and how
- * a check's time grows.
+ * MD5's work on one block, written out and by tables. Then a check and a seal beside the HMAC-MD5 that they contain, how a
+ * check's time grows, and whether an id is known, beside the C library's bsearch.
  *
  * How it measures. What is compared stands in one table and takes turns: each round times one batch of each, in another
  * order every round, so that whatever slows the machine meets all of them alike. A time is the median over all rounds,
@@ -698,6 +698,79 @@ static void relayed_or_not(void)
         printf("  %-18s %8.0f ns  %6.3f times the first\n", what[i], ns[i], ns[i] / ns[0]);
 }
 
+/* ---- a known id ---- */
+
+#define IDS_MOST 1024
+#define ASKED 5000
+
+/* A list of ids that ascend, and ids to ask it for, in no order; every second one is in the list. They are so many that the
+ * processor can't learn from one round which way the next one goes. */
+struct list {
+    uint32_t ids[IDS_MOST];
+    uint32_t asked[ASKED];
+    size_t count;
+    size_t found;
+};
+
+static void our_searches(void *with)
+{
+    struct list *list = with;
+    uint64_t row, looks;
+
+    list->found = 0;
+    for (size_t i = 0; i < ASKED; i++)
+        list->found += rimemagpie_known(list->ids, list->count, list->count, list->asked[i], &row, &looks) == 0;
+}
+
+static int by_id(const void *a, const void *b)
+{
+    uint32_t x = *(const uint32_t *)a, y = *(const uint32_t *)b;
+
+    return (x > y) - (x < y);
+}
+
+static void their_searches(void *with)
+{
+    struct list *list = with;
+
+    list->found = 0;
+    for (size_t i = 0; i < ASKED; i++)
+        list->found += bsearch(&list->asked[i], list->ids, list->count, sizeof list->ids[0], by_id) != NULL;
+}
+
+static void make_list(struct list *list, size_t count)
+{
+    uint32_t drawn = 1;
+
+    list->count = count;
+    for (size_t i = 0; i < count; i++)
+        list->ids[i] = (uint32_t)(2 * i);
+    for (size_t i = 0; i < ASKED; i++) {
+        drawn = drawn * 1664525 + 1013904223;
+        list->asked[i] = (uint32_t)(2 * ((drawn >> 8) % count) + i % 2);
+    }
+}
+
+static void compare_searches(void)
+{
+    static const char *const names[] = {"Rimemagpie", "bsearch"};
+    static const size_t counts[] = {256, IDS_MOST};
+    static struct list list;
+    struct work works[] = {{NULL, our_searches, &list, ASKED}, {NULL, their_searches, &list, ASKED}};
+
+    printf("\nWhether an id is known, beside the C library's bsearch in the same list of 32-bit ids:\n");
+    print_head(names, 2);
+    for (size_t i = 0; i < sizeof counts / sizeof counts[0]; i++) {
+        make_list(&list, counts[i]);
+        for (size_t way = 0; way < 2; way++) {
+            works[way].run(&list);
+            if (list.found != ASKED / 2)
+                fail("a search found another number of ids");
+        }
+        compare("known", counts[i] * sizeof list.ids[0], works, 2);
+    }
+}
+
 static void compare_all_digests(void)
 {
     static void (*const ways[])(void *) = {our_digests, their_digests};
@@ -755,5 +828,6 @@ int main(void)
     growth_with_length("pads before option 90", PADS_FIRST);
     growth_with_rows();
     relayed_or_not();
+    compare_searches();
     return 0;
 }

@@ -66,8 +66,8 @@
  * What is given back. Each function but rimemagpie_card_begin, which refuses nothing, returns one of the numbers below:
  * rimemagpie_forcerenew the first that applies in the order that its comment lists, every other function the lowest that
  * applies. Any bytes may be lent as a message or a card.
- * A refusal (any number but 0) changes nothing that was lent and no place of a result, with one exception:
- * rimemagpie_digest and rimemagpie_hmac write 16 zero bytes with 14.
+ * A refusal (any number but 0) changes nothing that was lent and no place of a result, with two exceptions:
+ * rimemagpie_digest and rimemagpie_hmac write 16 zero bytes with 14, and rimemagpie_known writes `*looks` with 10.
  */
 #ifndef RIMEMAGPIE_H
 #define RIMEMAGPIE_H
@@ -82,7 +82,8 @@ extern "C" {
 /* The numbers given back, by the names of crates/refusal. */
 enum rimemagpie_number {
     RIMEMAGPIE_DONE = 0,                    /* accepted or done */
-    RIMEMAGPIE_UNSOUND_BOOK = 1,            /* the book is not sound (card: sizes, reader; by nonce: server rows) */
+    RIMEMAGPIE_UNSOUND_BOOK = 1,            /* the book is not sound (card: sizes, reader; by nonce: server rows;
+                                               known: the list's size, the count) */
     RIMEMAGPIE_MESSAGE_SIZE = 2,            /* the message is below 241 or above 1,472 bytes */
     RIMEMAGPIE_WRONG_COOKIE = 3,            /* the cookie differs */
     RIMEMAGPIE_BROKEN_OPTIONS = 4,          /* an option passes the message's end, or there is no End */
@@ -191,6 +192,26 @@ uint8_t rimemagpie_seal(const uint32_t *ids, size_t ids_len,
                         uint32_t id,
                         uint8_t *message, size_t message_len,
                         uint64_t *counter);
+
+/*
+ * Whether an id is known: looks for it by halving among the first `count` ids of a list, a book's or any other. It needs
+ * no book. At first low is 0 and high is `count`. While low is below high, the id in the middle, at (low + high) / 2, is
+ * looked at: if it is the one asked for, this is its row; if it is larger, high becomes the middle; if it is smaller, low
+ * becomes the middle plus 1.
+ *
+ *   0   found: `*row` is its row, which is below `count` and holds the id, and `*looks` the number of ids looked at
+ *   1   the list has more than 1,024 ids, or `count` is above `ids_len`; nothing changed, neither `*row` nor `*looks`
+ *   10  not found: `*looks` is the number of ids looked at, 0 where `count` is 0, and `*row` is as it was. This is an
+ *       exception: no other refusal but 14 writes a result
+ *
+ * Where the first `count` ids ascend strictly, as a sound book's do, number and row are those of a search over all of
+ * them. Where they don't, an id that is there may be missed. There are at most as many looks as `count` has binary digits:
+ * 11 for 1,024. Ids behind the first `count` affect nothing.
+ */
+uint8_t rimemagpie_known(const uint32_t *ids, size_t ids_len,
+                         size_t count,
+                         uint32_t id,
+                         uint64_t *row, uint64_t *looks);
 
 /*
  * Reads a card of either form into a book. Marks and counters become the card's. A card of an earlier day brings the marks

@@ -83,6 +83,15 @@ mod header {
             counter: *mut u64,
         ) -> u8;
 
+        pub fn rimemagpie_known(
+            ids: *const u32,
+            ids_len: usize,
+            count: usize,
+            id: u32,
+            row: *mut u64,
+            looks: *mut u64,
+        ) -> u8;
+
         pub fn rimemagpie_card_read(
             card: *const u8,
             card_len: usize,
@@ -345,6 +354,11 @@ pub fn seal(
             counter,
         )
     }
+}
+
+/// `rimemagpie_known`.
+pub fn known(ids: &[u32], count: usize, id: u32, row: &mut u64, looks: &mut u64) -> u8 {
+    unsafe { header::rimemagpie_known(ids.as_ptr(), ids.len(), count, id, row, looks) }
 }
 
 /// `rimemagpie_card_read`.

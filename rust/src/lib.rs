@@ -1,6 +1,6 @@
 //! RFC 3118 delayed authentication for DHCPv4 messages: the proved library, as a Rust program uses
 //! it. FORCERENEW by nonce (RFC 6704) is in [`forcerenew`], and reading a card in pieces, as it
-//! arrives, in [`card_pieces`].
+//! arrives, in [`card_pieces`]. Whether an id has a row is asked of [`known`].
 //!
 //! ```
 //! use rimemagpie::{card_move, Accepted, Book, Form, Refusal, CARD_MOST, HEARD, NOT_HEARD};
@@ -99,6 +99,47 @@ pub fn card_move(card: &[u8], wanted: Form, room: &mut [u8]) -> Result<usize, Re
         Form::New => c::card_to_new(card, room, &mut size),
     })?;
     Ok(index(size))
+}
+
+/// What a search by halving came to.
+#[derive(Clone, Copy, Debug, PartialEq, Eq)]
+pub struct Sought {
+    /// The row of the id, below the count, or `None` where it was not found.
+    pub row: Option<usize>,
+    /// How many ids were looked at: 0 where the count is 0, and at most as many as the count has
+    /// binary digits, 11 for 1,024.
+    pub looks: usize,
+}
+
+/// Looks for an id by halving among the first `count` ids of a list, which may be a [`Book`]'s or any
+/// other.
+///
+/// ```
+/// use rimemagpie::{known, Refusal, Sought};
+///
+/// let ids = [3, 5, 7, 9];
+/// assert_eq!(known(&ids, 4, 5), Ok(Sought { row: Some(1), looks: 2 }));
+/// assert_eq!(known(&ids, 4, 4), Ok(Sought { row: None, looks: 3 }));
+/// assert_eq!(known(&ids, 5, 5), Err(Refusal::UnsoundBook));
+/// ```
+///
+/// Where these ids ascend strictly, as a sound book's do, the row is that of a search over all of
+/// them. Where they don't, an id that is there may be missed; a row that is given holds the id on any
+/// list. Ids behind the first `count` affect nothing.
+///
+/// An id that isn't found is no error here, since its looks are told: the C interface's number 10 is
+/// `row: None`. The only refusal is [`Refusal::UnsoundBook`], where the list has more than 1,024 ids
+/// or `count` is above its length.
+pub fn known(ids: &[u32], count: usize, id: u32) -> Result<Sought, Refusal> {
+    let (mut row, mut looks) = (0, 0);
+    let found = Refusal::from_number(c::known(ids, count, id, &mut row, &mut looks));
+    let row = match found {
+        Ok(()) => Some(index(row)),
+        Err(Refusal::UnknownSecret) => None,
+        Err(refusal) => return Err(refusal),
+    };
+    let looks = index(looks);
+    Ok(Sought { row, looks })
 }
 
 /// An accepted message: the row of its secret, which is now heard, and its counter, which is now

@@ -34,7 +34,7 @@ macro_rules! refusals {
 }
 
 refusals! {
-    UnsoundBook = 1, "the book is not sound, or the server rows are not";
+    UnsoundBook = 1, "the book or the server rows are not sound, or the ids are too many or too few";
     MessageSize = 2, "the message is below 241 or above 1,472 bytes";
     WrongCookie = 3, "the cookie differs";
     BrokenOptions = 4, "an option passes the message's end, or there is no End";

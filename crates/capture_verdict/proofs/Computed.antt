@@ -9,7 +9,7 @@ use Rattle.book_card.specs.Reading.{slotsOf, loaded, readOf, rowsIn, readBook}
 use Rattle.card_laws.specs.Examples.{cardB, newCardB}
 use Rattle.demands.proofs.Computing.{computing}
 use Rattle.verdict_line.specs.Decimal.{decimal, digitsTo}
-use Rattle.verdict_line.specs.Line.{acceptedLine, refusedLine, numberedLine}
+use Rattle.verdict_line.specs.Line.{acceptedLine, wordedLine, numberedLine}
 use Rattle.file_verdict.specs.Files.{readable, loadedOf, bookLoaded}
 use Rattle.capture.specs.Records.{numberAt, isEthernet, fileHeaderOf, recordHeaderOf, recordsTo, recordsFrom, recordsOf}
 use Rattle.capture.specs.Frame.{fieldAt, isWholeUdp, lengthsFit, isDhcpPort, isDhcp, datagramPlace, placeOf, payloadOf}
@@ -29,7 +29,7 @@ same-lines none = refl
 same-lines (some capture) = refl
 
 pub recording-example : RecordingExample
-unfolding loading acceptedLine refusedLine numberedLine decimal digitsTo numberAt isEthernet fileHeaderOf recordHeaderOf recordsTo recordsFrom recordsOf
+unfolding loading acceptedLine wordedLine numberedLine decimal digitsTo numberAt isEthernet fileHeaderOf recordHeaderOf recordsTo recordsFrom recordsOf
     fieldAt isWholeUdp lengthsFit isDhcpPort isDhcp datagramPlace placeOf payloadOf recordLine marksBy receivedBy linesOf linesToFailure
 recording-example = record {
   by-book-B = refl;

@@ -3,12 +3,13 @@ ghost use mathlib.Core.Path.{_≡_};
 ghost use Rattle.key_book.specs.Book.{bookOf};
 ghost use Rattle.delayed_auth.specs.Admit.{admittedForm};
 ghost use Rattle.delayed_auth.specs.Check.{checkOf, marksAfter, receivedAfter};
+use crate::Found;
 use crate::Verdict;
 use crate::admitted;
 use crate::mac_of;
+use crate::row_of;
 use dhcp_message::Auth;
 use dhcp_message::Form;
-use key_book::Found;
 use refusal::Refusal;
 
 // 10 to 12, of a message that passes 1 to 9. The counter is looked at before the MAC is computed (RFC 3118, section 5.3). On a heard row it must be
@@ -34,7 +35,7 @@ fn judged_full(
         r ≡ checkOf b (now (message .entry)))
         ⌝ }
 {
-    let found = key_book::row_of(ids, rows, auth.id);
+    let found = row_of(ids, rows, auth.id);
     let Found::At(row) = found else {
         return Verdict::Refused(Refusal::UnknownSecret);
     };

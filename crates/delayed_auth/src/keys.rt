@@ -2,10 +2,11 @@
 ghost use mathlib.Core.Path.{_≡_};
 ghost use Rattle.key_book.specs.Book.{bookOf, movedOn};
 ghost use Rattle.delayed_auth.specs.Key.{keyedOf, keyNumber, keyBytes, keyOffset};
+use crate::Found;
 use crate::Keyed;
 use crate::admitted;
+use crate::row_of;
 use dhcp_message::Form;
-use key_book::Found;
 use refusal::Refusal;
 
 // The row of the secret that a message names.
@@ -28,7 +29,7 @@ pub fn named_row(
     match form {
         Form::Refused(refusal) => Keyed::NoKey(refusal),
         Form::Full(auth) => {
-            let found = key_book::row_of(ids, rows, auth.id);
+            let found = row_of(ids, rows, auth.id);
             match found {
                 Found::At(row) => Keyed::Row(row),
                 Found::Nothing => Keyed::NoKey(Refusal::UnknownSecret),

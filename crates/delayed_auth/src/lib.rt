@@ -18,10 +18,13 @@ ghost use lib.ListN.{length};
 ghost use Rattle.hmac_md5.specs.Hmac.{hmac, keyMost};
 ghost use Rattle.dhcp_message.specs.Said.{formOf};
 ghost use Rattle.dhcp_message.specs.Image.{imageOf};
-ghost use Rattle.key_book.specs.Book.{bookOf};
-ghost use Rattle.delayed_auth.specs.Admit.{admittedForm};
+ghost use Rattle.key_book.specs.Book.{bookOf, rowIn};
+ghost use Rattle.key_book.specs.Halving.{Taken};
+ghost use Rattle.key_book.specs.Known.{Ascends};
+ghost use Rattle.delayed_auth.specs.Admit.{admittedForm, foundOf};
 use dhcp_message::Auth;
 use dhcp_message::Form;
+use key_book::Sought;
 use refusal::Refusal;
 
 // What a check answers: the row and the counter, which it has stored; or what is wrong.
@@ -48,6 +51,14 @@ pub(crate) enum Plan {
     NotReady(Refusal),
 }
 
+// Where a secret id stands in a sound book.
+pub(crate) enum Found {
+    // Its row.
+    At(usize),
+    // No row in use has it.
+    Nothing,
+}
+
 // 1 to 9: the form of a message, once the book is sound.
 pub(crate) fn admitted(
     ids: &[u32],
@@ -68,6 +79,19 @@ pub(crate) fn admitted(
         return Form::Refused(Refusal::UnsoundBook);
     }
     dhcp_message::form_of(message)
+}
+
+// The row of an id, where ids and row count are a sound book's: they ascend, so halving finds what a search over all rows would.
+pub(crate) fn row_of(ids: &[u32], rows: usize, id: u32) -> Found
+    requires { ⌜ Taken (now ids) rows × Ascends (now ids) rows ⌝ }
+    ensures { λ r. ⌜ r ≡ foundOf (rowIn (now (ids .entry)) rows id) ⌝ }
+{
+    let sought = key_book::known(ids, rows, id);
+    match sought {
+        Sought::Stands(row, _) => Found::At(row),
+        Sought::Missing(_) => Found::Nothing,
+        Sought::Unsized => Found::Nothing,
+    }
 }
 
 // The MAC of a message in full form under a key, over its covered image.

@@ -6,13 +6,14 @@ ghost use Rattle.hmac_md5.specs.Hmac.{keyMost};
 ghost use Rattle.dhcp_message.specs.Said.{formOf};
 ghost use Rattle.key_book.specs.Book.{bookOf};
 ghost use Rattle.delayed_auth.specs.Seal.{planOf, sealedMessage, sealOf, sealingOf, messageAfter, sentAfter};
+use crate::Found;
 use crate::Plan;
 use crate::Sealing;
 use crate::admitted;
 use crate::mac_of;
+use crate::row_of;
 use dhcp_message::Auth;
 use dhcp_message::Form;
-use key_book::Found;
 use refusal::Refusal;
 
 // 1 to 9, then 10 for the given id, then 13.
@@ -36,7 +37,7 @@ fn planned(
     match form {
         Form::Refused(refusal) => Plan::NotReady(refusal),
         Form::Full(auth) => {
-            let found = key_book::row_of(ids, rows, id);
+            let found = row_of(ids, rows, id);
             let Found::At(row) = found else {
                 return Plan::NotReady(Refusal::UnknownSecret);
             };

@@ -9,7 +9,7 @@ use Rattle.dhcp_message.specs.Said.{refused, says, saidOf, formOf, formNumber}
 use Rattle.dhcp_message.proofs.Examples.{bench-examples}
 use Rattle.key_book.specs.Book.{Sound, allBelow, sized, ascending, keySizes, markFits, marksFit, sound}
 use Rattle.key_book.proofs.Says.{sound-says}
-use Rattle.key_book.proofs.Computed.{example-10}
+use Rattle.key_book.proofs.Computed.{example-10, example-12}
 use Rattle.delayed_auth.specs.declared.Verdict.{Verdict}
 use Rattle.delayed_auth.specs.Check.{checkOf, verdictNumber}
 use Rattle.forcerenew.proofs.Computed.{nonce-examples}
@@ -58,4 +58,5 @@ bench-table = record {
   example-8-counter = refl;
   example-10 = example-10;
   example-11 = nonce-examples;
+  example-12 = example-12;
 }

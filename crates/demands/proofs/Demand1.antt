@@ -6,6 +6,7 @@ use Rattle.delayed_auth.specs.Seal.{sealOf}
 use Rattle.demands.specs.Demand1.{Demand1}
 use Rattle.demands.proofs.DemandCheck.{check-number, check-keeps, key-number, key-empty}
 use Rattle.demands.proofs.DemandSeal.{seal-number, seal-keeps}
+use Rattle.demands.proofs.DemandKnown.{known-number}
 use Rattle.demands.proofs.DemandDigests.{feed-number, finish-number, finish-zeros, digest-number, digest-zeros, hmac-number, hmac-zeros}
 use Rattle.demands.proofs.DemandJudge.{judge-number, judge-keeps}
 use Rattle.demands.proofs.DemandPieces.{piece-number, piece-keeps, end-number, end-keeps}
@@ -19,6 +20,7 @@ demand-1 = record {
   key-empty = λ b m. key-empty b (keyedOf b m);
   seal = seal-number;
   seal-keeps = λ b id m. seal-keeps (sealOf b id m) m (b .sent);
+  known = known-number;
   feed = feed-number;
   feed-keeps = refused-kept;
   finish = finish-number;

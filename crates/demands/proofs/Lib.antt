@@ -13,6 +13,7 @@ pub mod LastCounter
 pub mod History
 pub mod DemandCheck
 pub mod DemandSeal
+pub mod DemandKnown
 pub mod DemandDigests
 pub mod DemandCards
 pub mod DemandPieces

@@ -6,7 +6,7 @@ use mathlib.Core.Logic.{_↔_}
 use mathlib.Core.List.{List, [], _∷_, _++_}
 use Rattle.dhcp_message.specs.Said.{formOf, formNumber}
 use Rattle.dhcp_message.specs.Bench.{messageOf, fullAuth, someMac, relayInTheMiddle, BenchExamples}
-use Rattle.key_book.specs.Examples.{Example10}
+use Rattle.key_book.specs.Examples.{Example10, Example12}
 use Rattle.delayed_auth.specs.Check.{checkOf, verdictNumber}
 use Rattle.forcerenew.specs.Examples.{NonceExamples}
 use Rattle.card_laws.specs.Examples.{bookB, Example1, MarkedCards, Example2}
@@ -33,3 +33,5 @@ pub record BenchTable : Type 0 where
   pub example-10 : Example10
   -- by a nonce
   pub example-11 : NonceExamples
+  -- by halving
+  pub example-12 : Example12

@@ -7,7 +7,7 @@ use mathlib.Core.Path.{_≡_}
 use mathlib.Core.Logic.{_≢_, _⊎_}
 use mathlib.Core.Bool.{false}
 use mathlib.Core.List.{List, [], _∷_}
-use mathlib.Core.Option.{some}
+use mathlib.Core.Option.{none, some}
 use lib.ListN.{length, getD, take, drop}
 use Rattle.refusal.specs.Number.{numberOf, done}
 use Rattle.refusal.specs.Lowest.{Lowest}
@@ -28,8 +28,9 @@ use Rattle.dhcp_message.specs.Layout.{lengthAt, methodAt}
 use Rattle.dhcp_message.specs.Numbers.{Applies}
 use Rattle.dhcp_message.specs.Types.{messageTypeOf}
 use Rattle.dhcp_message.specs.declared.MessageType.the-variants.{Stated}
-use Rattle.key_book.specs.Limits.{notHeard}
+use Rattle.key_book.specs.Limits.{roomMost, notHeard}
 use Rattle.key_book.specs.Book.{Book, Sized, Sound, rowOf, keyOf}
+use Rattle.key_book.specs.Halving.{Halves, knownOf, soughtNumber}
 use Rattle.key_book.specs.Laws.{NoRow}
 use Rattle.delayed_auth.specs.Check.{newTo, checkOf, marksAfter, receivedAfter, verdictNumber}
 use Rattle.delayed_auth.specs.Key.{keyedOf, keyNumber, keyBytes, keyOffset}
@@ -75,6 +76,12 @@ pub data SealApplies (b : Book) (id : ℕ) (m : List ℕ) : Refusal → Type 0 w
   by-form : {r : Refusal} → Applies m r → SealApplies b id m r
   no-row : NoRow b id → SealApplies b id m UnknownSecret
   spent : (k : ℕ) → rowOf b id ≡ some k → getD (b .sent) k 0 ≡ counterMost → SealApplies b id m CounterSpent
+
+-- whether an id is known: the list has too many ids, or the count is above its length; the steps of halving end without the id
+pub data KnownApplies (ids : List ℕ) (count id : ℕ) : Refusal → Type 0 where
+  too-many : roomMost < length ids → KnownApplies ids count id UnsoundBook
+  count-above : length ids < count → KnownApplies ids count id UnsoundBook
+  not-met : (looks : ℕ) → Halves ids id 0 count none looks → KnownApplies ids count id UnknownSecret
 
 -- 14: a digest's total would pass its limit
 pub data DigestApplies (total : ℕ) : Refusal → Type 0 where
@@ -154,6 +161,8 @@ pub record Demand1 : Type 0 where
   pub seal : (b : Book) (id : ℕ) (m : List ℕ) → Bytes m → Lowest (SealApplies b id m) (outcomeNumber (sealOf b id m))
   pub seal-keeps : (b : Book) (id : ℕ) (m : List ℕ) → outcomeNumber (sealOf b id m) ≢ done
       → (messageAfter (sealOf b id m) m ≡ m) × (sentAfter (sealOf b id m) (b .sent) ≡ b .sent)
+  -- whether an id is known: nothing is lent for writing
+  pub known : (ids : List ℕ) (count id : ℕ) → Lowest (KnownApplies ids count id) (soughtNumber (knownOf ids count id))
   pub feed : (d : Digest) (piece : List ℕ) → Lowest (DigestApplies (d .total + length piece)) (feedOf d piece .number)
   pub feed-keeps : (d : Digest) (piece : List ℕ) → feedOf d piece .number ≢ done → feedOf d piece .state ≡ d
   pub finish : (d : Digest) → Lowest (DigestApplies (d .total)) (finishOf d .number)

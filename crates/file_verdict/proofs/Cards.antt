@@ -27,7 +27,7 @@ use Rattle.file_verdict.proofs.Stages.{card-none, card-read, book-read}
 empty-long : length (emptyBook .ids) ≡ rowsMost
 empty-long = length-replicate {A = ℕ} rowsMost 0
 
-empty-sized : Sized emptyBook
+pub empty-sized : Sized emptyBook
 empty-sized =
     let l = empty-long in
     let s = length-replicate {A = ℕ} (rowsMost * slotSize) 0 in
@@ -48,7 +48,7 @@ module _ (card : List ℕ) (rows : List Row) (c : CardFor rows card) where
   card-rows : readCard card ≡ some rows
   card-rows = card-says card (is-bytes (c .0) rows card (c .1)) rows .1 c
 
-  rows-room : length rows ≤ length (emptyBook .ids)
+  pub rows-room : length rows ≤ length (emptyBook .ids)
   rows-room = let f = c .1 .order .few in let l = empty-long in omega arith
 
   card-small : readable (some card) ≡ some card

@@ -1,5 +1,5 @@
--- specs/Examples.antt, computed; the lengths of lists too long to count out by a law.
-use mathlib.Core.Path.{_≡_, refl}
+-- specs/Examples.antt, computed; the lengths of lists too long to count out, and a search in one of them, by a law.
+use mathlib.Core.Path.{_≡_, refl, ap, _∙_}
 use Prim.Native.Nat.{ℕ, zero, suc, _*_, _<_}
 use native.Mathlib.Omega.{arith}
 use lib.Dec.{leb, eqb}
@@ -7,7 +7,11 @@ use lib.ListN.{getD, replicate, length-replicate}
 use mathlib.Core.Bool.{_&&_}
 use Rattle.key_book.specs.Limits.{slotSize, roomMost}
 use Rattle.key_book.specs.Book.{sound, sized, ascending, keySizes, markFits, marksFit, allBelow}
-use Rattle.key_book.specs.Examples.{Example10, roomFor, BookLimits, MarksPinned}
+use Rattle.key_book.specs.Halving.{halvedIn, halved, taken, knownOf, digitsIn, binaryDigits}
+use Rattle.key_book.specs.Examples.{Example10, roomFor, BookLimits, MarksPinned, Example12}
+use Rattle.key_book.specs.declared.Sought.the-variants.{Missing}
+use Rattle.key_book.proofs.Halves.{known-unsized}
+use Rattle.key_book.proofs.Looks.{larger-missing}
 
 pub example-10 : Example10
 unfolding sound sized ascending keySizes markFits marksFit allBelow
@@ -49,4 +53,27 @@ marks-pinned = record {
   other-mark = refl;
   not-in-use = λ mark received. refl;
   one-mark-less = refl;
+}
+
+digits-1024 : binaryDigits 1024 ≡ 11
+unfolding binaryDigits digitsIn
+digits-1024 = refl
+
+pub example-12 : Example12
+unfolding knownOf taken halved halvedIn
+example-12 = record {
+  at-once = refl;
+  before = refl;
+  first = refl;
+  last = refl;
+  between = (refl, refl);
+  outside = (refl, refl);
+  not-in-use = refl;
+  none-in-use = λ id. refl;
+  count-above = λ id. refl;
+  missed = refl;
+  eleven-looks = λ ids l a.
+      larger-missing ids 1024 0 (record { room = omega arith; counted = omega arith }) a ∙ ap Missing digits-1024;
+  too-many = λ ids l count id. known-unsized ids count id (λ t. let r = t .room in omega arith);
+  numbers = λ k looks. (refl, (refl, refl));
 }

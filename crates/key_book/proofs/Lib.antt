@@ -1,6 +1,7 @@
 mod Below
 mod Keys
 mod Steps
-pub mod Answers
+pub mod Halves
+pub mod Looks
 pub mod Says
 pub mod Computed

@@ -2,15 +2,13 @@
 -- `Sound` is the rules' sentence and `sound` computes it; specs/Laws.antt states that they agree.
 use mathlib.Core.Path.{_≡_}
 use mathlib.Core.Logic.{_⊎_}
-use mathlib.Core.Bool.{Bool, true, not, cond, _&&_}
+use mathlib.Core.Bool.{Bool, true, cond, _&&_}
 use mathlib.Core.List.{List, [], _∷_}
 use mathlib.Core.Option.{Option, none, some}
 use Prim.Native.Nat.{ℕ, zero, suc, _+_, _-_, _*_, _^_, _≤_, _<_}
 use lib.Dec.{leb, ltb, eqb}
 use lib.ListN.{length, getD, take, drop}
 use Rattle.key_book.specs.Limits.{rowsMost, slotSize, roomMost, notHeard, heard}
-use Rattle.key_book.specs.declared.Found.{Found}
-use Rattle.key_book.specs.declared.Found.the-variants.{At, Nothing}
 
 -- The seven lent things. Row k is the k-th of each list, and of the store the slot of `slotSize` bytes from `slotSize * k`.
 -- Only the rows below `rows` are in use.
@@ -105,10 +103,6 @@ sound b =
 abbrev pub heardAt : Book → ℕ → Bool
 heardAt b k = eqb (getD (b .marks) k 0) heard
 
--- none of so many ids from a place on is this one
-unfoldable pub noneIs : List ℕ → (from count id : ℕ) → Bool
-noneIs ids from count id = allBelow (λ k. not (eqb (getD ids (from + k) 0) id)) count
-
 -- where an id first stands in a list whose first element has number k
 unfoldable pub placeFrom : ℕ → ℕ → List ℕ → Option ℕ
 placeFrom id k [] = none
@@ -121,11 +115,6 @@ rowIn ids rows id = placeFrom id 0 (take rows ids)
 -- the row of a secret id: the first in use that has it
 abbrev pub rowOf : Book → ℕ → Option ℕ
 rowOf b id = rowIn (b .ids) (b .rows) id
-
--- the answer of `row_of`
-abbrev pub foundOf : Option ℕ → Found
-foundOf none = Nothing
-foundOf (some k) = At k
 
 -- whether a row has a key length, and the store as many bytes from the row's slot on
 unfoldable pub keyFits : List ℕ → List ℕ → ℕ → Bool

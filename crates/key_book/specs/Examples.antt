@@ -1,12 +1,15 @@
--- The limits of a key book and its marks, from both sides and as numbers: docs/RULES.md, 'The key book' and 'Bench examples', 10.
+-- The limits of a key book and its marks, from both sides and as numbers, and the search by halving on lists written out: docs/RULES.md, 'The key book' and
+-- 'Bench examples', 10 and 12.
 use mathlib.Core.Path.{_≡_}
 use mathlib.Core.Bool.{true, false}
-use mathlib.Core.List.{[], _∷_}
-use Prim.Native.Nat.{ℕ, _*_}
-use lib.ListN.{replicate}
+use mathlib.Core.List.{List, [], _∷_}
+use Prim.Native.Nat.{ℕ, _*_, _<_}
+use lib.ListN.{length, getD, replicate}
 use Rattle.octets.specs.Bytes.{zeros, upFrom}
 use Rattle.key_book.specs.Limits.{slotSize}
 use Rattle.key_book.specs.Book.{Book, bookOf, Lent, sized, sound, heardAt}
+use Rattle.key_book.specs.Halving.{knownOf, soughtNumber}
+use Rattle.key_book.specs.declared.Sought.the-variants.{Stands, Missing, Unsized}
 
 -- one row whose key has so many bytes, with room for it
 abbrev pub oneRow : ℕ → Book
@@ -53,3 +56,24 @@ pub record MarksPinned : Type 0 where
   pub other-mark : sound (secondRow 2 0 2) ≡ false
   pub not-in-use : (mark received : ℕ) → sound (secondRow mark received 1) ≡ true
   pub one-mark-less : sound (bookOf (7 ∷ []) (4 ∷ []) (replicate 64 1) [] (10 ∷ []) (3 ∷ []) 1) ≡ false
+
+abbrev pub fourIds : List ℕ
+fourIds = 3 ∷ 5 ∷ 7 ∷ 9 ∷ []
+
+-- bench example 12: the row and the looks, the looks of what is not found, and the limits
+pub record Example12 : Type 0 where
+  pub at-once : knownOf fourIds 4 7 ≡ Stands 2 1
+  pub before : knownOf fourIds 4 5 ≡ Stands 1 2
+  pub first : knownOf fourIds 4 3 ≡ Stands 0 3
+  pub last : knownOf fourIds 4 9 ≡ Stands 3 2
+  pub between : (knownOf fourIds 4 4 ≡ Missing 3) × (knownOf fourIds 4 8 ≡ Missing 2)
+  pub outside : (knownOf fourIds 4 1 ≡ Missing 3) × (knownOf fourIds 4 10 ≡ Missing 2)
+  pub not-in-use : knownOf fourIds 2 7 ≡ Missing 1
+  pub none-in-use : (id : ℕ) → knownOf fourIds 0 id ≡ Missing 0
+  pub count-above : (id : ℕ) → knownOf fourIds 5 id ≡ Unsized
+  -- ids that don't ascend: one that is there is missed
+  pub missed : knownOf (9 ∷ 7 ∷ 5 ∷ []) 3 9 ≡ Missing 2
+  -- a list of 1,024 ids and no more, and eleven looks
+  pub eleven-looks : (ids : List ℕ) → length ids ≡ 1024 → ((k : ℕ) → k < 1024 → 0 < getD ids k 0) → knownOf ids 1024 0 ≡ Missing 11
+  pub too-many : (ids : List ℕ) → length ids ≡ 1025 → (count id : ℕ) → knownOf ids count id ≡ Unsized
+  pub numbers : (k looks : ℕ) → (soughtNumber (Stands k looks) ≡ 0) × ((soughtNumber (Missing looks) ≡ 10) × (soughtNumber Unsized ≡ 1))

@@ -1,4 +1,6 @@
 pub mod Limits
 pub mod Book
+pub mod Halving
 pub mod Laws
+pub mod Known
 pub mod Examples

@@ -1,14 +1,14 @@
-// The key book as the host lends it: whether it is sound, the row of a secret id, the key of a row (docs/RULES.md, 'The key book').
+// The key book as the host lends it: whether it is sound, the key of a row (docs/RULES.md, 'The key book'); and whether an id is known ('Is an id known?').
 // Not here: what a mark and the counters decide (delayed_auth) and the card on which a book is stored (book_card).
 //
 // A book has room for n rows: ids, key lengths, marks and two rows of counters have n elements, and the key store a slot of SLOT_SIZE bytes per row.
 // Only the first `rows` of them are in use. Slot bytes past a key, and rows from `rows` on, affect no answer.
 ghost use mathlib.Core.Path.{_≡_};
-ghost use mathlib.Core.Logic.{_≢_};
-ghost use Prim.Native.Nat.{ℕ, _+_, _≤_, _<_};
-ghost use lib.ListN.{length, getD};
-ghost use Rattle.key_book.specs.Book.{bookOf, sized, ascending, keySizes, markFits, marksHeard, marksFit, sound, noneIs, rowIn, foundOf};
+ghost use Prim.Native.Nat.{_≤_};
+ghost use lib.ListN.{length};
+ghost use Rattle.key_book.specs.Book.{bookOf, sized, ascending, keySizes, markFits, marksHeard, marksFit, sound};
 ghost use Rattle.key_book.specs.Book.{keyIn, keyStart, movedOn};
+ghost use Rattle.key_book.specs.Halving.{knownOf};
 
 // The most rows in use.
 pub const ROWS_MOST: usize = 256;
@@ -17,20 +17,19 @@ pub const SLOT_SIZE: usize = 64;
 // The most rows that there may be room for.
 pub const ROOM_MOST: usize = 1024;
 
-// How many ids a search looks at together.
-const TOGETHER: usize = 8;
-
 // The mark of a row that is not heard: nothing was accepted under it yet, its received counter is 0, and any counter is new.
 pub const NOT_HEARD: u8 = 0;
 // The mark of one that is heard: a counter above the received one is new.
 pub const HEARD: u8 = 1;
 
-// Where a secret id stands.
-pub enum Found {
-    // Its row.
-    At(usize),
-    // No row in use has it.
-    Nothing,
+// What a search by halving comes to.
+pub enum Sought {
+    // The id stands in this row, and so many ids were looked at.
+    Stands(usize, usize),
+    // It was not met, and so many ids were looked at.
+    Missing(usize),
+    // The list is longer than ROOM_MOST or the count is above it: nothing was looked at.
+    Unsized,
 }
 
 // Whether all lists have room for the same number of rows, and for no more than ROOM_MOST.
@@ -176,53 +175,34 @@ pub fn is_sound(
     marks_fit(marks, received, rows)
 }
 
-// Whether none of so many ids from a place on is this one. The loop has no way out, as in `ids_ascend`.
-fn none_is(ids: &[u32], from: usize, count: usize, id: u32) -> bool
-    requires { ⌜ from + count ≤ length (now ids) ⌝ }
-    ensures { λ r. ⌜ r ≡ noneIs (now (ids .entry)) from count id ⌝ }
+// Whether an id stands in the first `count` rows, by halving (docs/RULES.md, 'Is an id known?'). Nothing is asked of the list: on ids that don't ascend the
+// answer is what these steps give.
+pub fn known(ids: &[u32], count: usize, id: u32) -> Sought
+    ensures { λ r. ⌜ r ≡ knownOf (now (ids .entry)) count id ⌝ }
 {
-    let mut none = true;
-    let mut k: usize = 0;
-    while k < count {
-        none = none & (ids[from + k] != id);
-        k += 1;
+    if ROOM_MOST < ids.len() {
+        return Sought::Unsized;
     }
-    none
-}
-
-// How many of the first rows can be passed over, TOGETHER at a time: none of them has this id. None are where fewer ids are lent than rows are said to be
-// in use.
-fn passed_over(ids: &[u32], rows: usize, id: u32) -> usize
-    ensures { λ r. ⌜ (r ≤ length (now (ids .entry))) × ((j : ℕ) → j < r → getD (now (ids .entry)) j 0 ≢ id) ⌝ }
-{
-    if ids.len() < rows {
-        return 0;
+    if ids.len() < count {
+        return Sought::Unsized;
     }
-    let mut row: usize = 0;
-    while TOGETHER <= rows - row {
-        if !none_is(ids, row, TOGETHER, id) {
-            return row;
+    let mut low: usize = 0;
+    let mut high = count;
+    let mut looks: usize = 0;
+    while low < high {
+        let middle = (low + high) / 2;
+        let there = ids[middle];
+        looks += 1;
+        if there == id {
+            return Sought::Stands(middle, looks);
         }
-        row += TOGETHER;
-    }
-    row
-}
-
-// The first row in use that has this id. Where fewer ids are lent than rows are said to be in use, all of them are looked at.
-pub fn row_of(ids: &[u32], rows: usize, id: u32) -> Found
-    ensures { λ r. ⌜ r ≡ foundOf (rowIn (now (ids .entry)) rows id) ⌝ }
-{
-    let mut row = passed_over(ids, rows, id);
-    while row < ids.len() {
-        if rows <= row {
-            return Found::Nothing;
+        if id < there {
+            high = middle;
+        } else {
+            low = middle + 1;
         }
-        if ids[row] == id {
-            return Found::At(row);
-        }
-        row += 1;
     }
-    Found::Nothing
+    Sought::Missing(looks)
 }
 
 // The key of a row, as the part of the store itself. Where it does not fit (no sound book has such a row in use), the empty part at the store's start.

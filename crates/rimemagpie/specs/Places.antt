@@ -1,8 +1,11 @@
--- The places of results that C lends, digests and MACs apart: each holds the result after an answer, and after a refusal what it held before.
+-- The places of results that C lends, digests and MACs apart: each holds the result after an answer, and after a refusal what it held before, but for the
+-- number of looks, which 10 comes with too.
 use Prim.Native.Nat.{ℕ, _*_}
 use lib.ListN.{length}
 use Rattle.key_book.specs.Limits.{slotSize}
 use Rattle.key_book.specs.Book.{Book, keyOf}
+use Rattle.key_book.specs.declared.Sought.{Sought}
+use Rattle.key_book.specs.declared.Sought.the-variants.{Stands, Missing, Unsized}
 use Rattle.delayed_auth.specs.declared.Verdict.{Verdict}
 use Rattle.delayed_auth.specs.declared.Verdict.the-variants.{Accepted, Refused}
 use Rattle.delayed_auth.specs.declared.Keyed.{Keyed}
@@ -47,6 +50,17 @@ rowsPlace was (Rows n) = n
 abbrev pub cardPlace : (was : ℕ) → WriteAnswer → ℕ
 cardPlace was (WriteRefused r) = was
 cardPlace was (Size n) = n
+
+-- after a search by halving: the row, and how many ids were looked at, which is known with 10 too
+abbrev pub soughtPlace : (was : ℕ) → Sought → ℕ
+soughtPlace was (Stands k looks) = k
+soughtPlace was (Missing looks) = was
+soughtPlace was Unsized = was
+
+abbrev pub looksPlace : (was : ℕ) → Sought → ℕ
+looksPlace was (Stands k looks) = looks
+looksPlace was (Missing looks) = looks
+looksPlace was Unsized = was
 
 -- after a judgement by a nonce: option 90's type, and the counter
 abbrev pub kindPlace : (was : ℕ) → Judged → ℕ

@@ -1,7 +1,8 @@
 // The library as C calls it: every entry as an exported function, with its number (docs/RULES.md, 'Numbers') as its result. Names are those of
 // include/rimemagpie.h, for parameters too.
 // Each takes an entry's answer apart and decides nothing. The book is lent as in delayed_auth, server rows as in forcerenew; a further result goes to
-// a lent place, which a refusal leaves as it was, but that a digest or MAC refused with 14 is 16 zero bytes there.
+// a lent place, which a refusal leaves as it was, but that a digest or MAC refused with 14 is 16 zero bytes there, and that the number of looks is
+// written with 10 too.
 //
 // A slice is a pointer and a length to C. That these are right, and that what is lent doesn't overlap, is up to the caller.
 ghost use mathlib.Core.Path.{_≡_};
@@ -9,6 +10,7 @@ ghost use lib.ListN.{length};
 ghost use Rattle.md5.specs.Entries.{md5Of};
 ghost use Rattle.hmac_md5.specs.Hmac.{hmacOf};
 ghost use Rattle.key_book.specs.Book.{bookOf};
+ghost use Rattle.key_book.specs.Halving.{knownOf, soughtNumber};
 ghost use Rattle.delayed_auth.specs.Check.{checkOf, marksAfter, receivedAfter, verdictNumber};
 ghost use Rattle.delayed_auth.specs.Key.{keyedOf, keyNumber};
 ghost use Rattle.delayed_auth.specs.Seal.{sealOf, sealingOf, messageAfter, sentAfter, outcomeNumber};
@@ -21,7 +23,7 @@ ghost use Rattle.book_card.specs.Moving.{moveOf, roomMoved};
 ghost use Rattle.card_pieces.specs.Pieces.{fresh};
 ghost use Rattle.card_pieces.specs.Numbers.{formNumber, phaseNumber};
 ghost use Rattle.rimemagpie.specs.Places.{rowPlace, counterPlace, offsetPlace, sizePlace, sealedPlace, rowsPlace, cardPlace};
-ghost use Rattle.rimemagpie.specs.Places.{kindPlace, judgedPlace};
+ghost use Rattle.rimemagpie.specs.Places.{soughtPlace, looksPlace, kindPlace, judgedPlace};
 ghost use Rattle.rimemagpie.specs.States.{stateOf, fedNumber, fedSpare, tailPlace, keptPlace, readPlace, lowPlace, formPlace, phasePlace};
 ghost use Rattle.rimemagpie.specs.States.{endedAnswer, endedBook};
 use book_card::CardForm;
@@ -33,6 +35,7 @@ use delayed_auth::Keyed;
 use delayed_auth::Sealing;
 use delayed_auth::Verdict;
 use forcerenew::Judged;
+use key_book::Sought;
 use refusal::Refusal;
 
 // The digest of a message.
@@ -298,6 +301,34 @@ pub extern "C" fn rimemagpie_card_to_new(card: &[u8], room: &mut [u8], size: &mu
             0
         }
         WriteAnswer::Refused(refusal) => refusal::number(refusal),
+    }
+}
+
+// Whether an id stands in the first `count` of a list of ids, by halving, and how many were looked at.
+#[no_mangle]
+pub extern "C" fn rimemagpie_known(
+    ids: &[u32],
+    count: usize,
+    id: u32,
+    row: &mut u64,
+    looks: &mut u64,
+) -> u8
+    ensures number { λ r. ⌜ r ≡ soughtNumber (knownOf (now (ids .entry)) count id) ⌝ }
+    ensures row { λ _. ⌜ now (row .exit) ≡ soughtPlace (now (row .entry)) (knownOf (now (ids .entry)) count id) ⌝ }
+    ensures looks { λ _. ⌜ now (looks .exit) ≡ looksPlace (now (looks .entry)) (knownOf (now (ids .entry)) count id) ⌝ }
+{
+    let sought = key_book::known(ids, count, id);
+    match sought {
+        Sought::Stands(at, looked) => {
+            *row = at as u64;
+            *looks = looked as u64;
+            0
+        }
+        Sought::Missing(seen) => {
+            *looks = seen as u64;
+            refusal::number(Refusal::UnknownSecret)
+        }
+        Sought::Unsized => refusal::number(Refusal::UnsoundBook),
     }
 }
 

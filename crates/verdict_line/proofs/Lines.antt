@@ -1,4 +1,4 @@
--- The whole line: its length, how it is made of its pieces, and where it fits. The laws of `acceptedLine`, `refusedLine`, `numberedLine`, `sizeIn` and
+-- The whole line: its length, how it is made of its pieces, and where it fits. The laws of `acceptedLine`, `wordedLine`, `numberedLine`, `sizeIn` and
 -- `outAfter`.
 use mathlib.Core.Path.{_≡_, refl, sym, ap, ap₂, _∙_}
 use mathlib.Core.Bool.{Bool, true, false, cond}
@@ -11,8 +11,8 @@ use lib.Dec.{leb}
 use lib.ListN.{length, take, length-append}
 use lib.Seq.{length-take-le}
 use Rattle.verdict_line.specs.Decimal.{decimal}
-use Rattle.verdict_line.specs.Line.{lineMost, numberedMost, acceptedRow, counterWord, refusedWord, space, newline}
-use Rattle.verdict_line.specs.Line.{acceptedLine, refusedLine, lineOf, numberedLine}
+use Rattle.verdict_line.specs.Line.{lineMost, numberedMost, wordMost, acceptedRow, counterWord, space, newline}
+use Rattle.verdict_line.specs.Line.{acceptedLine, wordedLine, lineOf, numberedLine}
 use Rattle.verdict_line.specs.Line.{PutAt, Made, sizeIn, outAfter}
 use Rattle.verdict_line.specs.declared.Line.{Line}
 use Rattle.verdict_line.proofs.Digits.{length-word}
@@ -28,9 +28,12 @@ accepted-length row counter = simp length-append (omega arith)
 pub accepted-most : {row counter : ℕ} → row < 2 ^ 64 → counter < 2 ^ 64 → length (acceptedLine row counter) ≤ lineMost
 accepted-most {row} {counter} h k = omega (arith, accepted-length row counter, length-word row h, length-word counter k)
 
-pub refused-most : {number : ℕ} → number < 2 ^ 64 → length (refusedLine number) ≤ lineMost
-unfolding refusedLine
-refused-most {number} h = let l = length-word number h in simp length-append (omega arith)
+pub worded-length : (word : List ℕ) (number : ℕ) → length (wordedLine word number) ≡ length word + length (decimal number) + 1
+unfolding wordedLine
+worded-length word number = simp length-append (omega arith)
+
+pub worded-most : (word : List ℕ) (number : ℕ) → length word ≤ wordMost → number < 2 ^ 64 → length (wordedLine word number) ≤ lineMost
+worded-most word number f h = omega (arith, worded-length word number, length-word number h)
 
 pub numbered-length : (number : ℕ) (line : Line) → length (numberedLine number line) ≡ length (decimal number) + 1 + length (lineOf line)
 unfolding numberedLine
@@ -53,13 +56,13 @@ module _ {out : List ℕ} {at : ℕ} (room : at + lineMost ≤ length out) where
       let t₄ = put-next (simp length-append (omega arith)) t₃ s₄ in
       record { put = put-next (simp length-append (omega arith)) t₄ s₅; most = accepted-most hr hc }
 
-  pub refused-made : {number : ℕ} {o₁ o₂ o₃ : List ℕ} {p₁ p₂ p₃ : ℕ} → number < 2 ^ 64
-      → PutAt out at refusedWord o₁ p₁ → PutAt o₁ p₁ (decimal number) o₂ p₂ → PutAt o₂ p₂ newline o₃ p₃ → Made out at (refusedLine number) o₃ p₃
-  unfolding refusedLine
-  refused-made {number} h s₁ s₂ s₃ =
-      let a = length-word number h in
+  pub worded-made : {word : List ℕ} {number : ℕ} {o₁ o₂ o₃ : List ℕ} {p₁ p₂ p₃ : ℕ} → length word ≤ wordMost → number < 2 ^ 64
+      → PutAt out at word o₁ p₁ → PutAt o₁ p₁ (decimal number) o₂ p₂ → PutAt o₂ p₂ newline o₃ p₃ → Made out at (wordedLine word number) o₃ p₃
+  unfolding wordedLine
+  worded-made {word} {number} f h s₁ s₂ s₃ =
+      let l = length-word number h in
       let t₂ = put-next (omega arith) s₁ s₂ in
-      record { put = put-next (simp length-append (omega arith)) t₂ s₃; most = refused-most h }
+      record { put = put-next (simp length-append (omega arith)) t₂ s₃; most = worded-most word number f h }
 
 -- with a number in front of it
 pub numbered-made : {out : List ℕ} {number : ℕ} (line : Line) {o₁ o₂ o₃ : List ℕ} {p₁ p₂ p₃ : ℕ} → numberedMost ≤ length out → number < 2 ^ 64

@@ -7,7 +7,7 @@ use Rattle.refusal.specs.declared.Refusal.{Refusal}
 use Rattle.verdict_line.specs.Decimal.{digit, decimal}
 use Rattle.verdict_line.specs.Line.{lineMost, numberedMost, lineOf, numberedLine, sizeIn}
 use Rattle.verdict_line.specs.declared.Line.{Line}
-use Rattle.verdict_line.specs.declared.Line.the-variants.{Accepted, Refused, Unreadable, Skipped, Cut}
+use Rattle.verdict_line.specs.declared.Line.the-variants.{Accepted, Refused, Unreadable, Skipped, Cut, Known, Unknown}
 
 -- decimal is the usual recursion, at every number
 pub record DecimalSays : Type 0 where
@@ -26,6 +26,8 @@ pub record LongestLine : Type 0 where
   pub unreadable-most : length (lineOf Unreadable) ≤ lineMost
   pub skipped-most : length (lineOf Skipped) ≤ lineMost
   pub cut-most : length (lineOf Cut) ≤ lineMost
+  pub known-most : (row : ℕ) → row < 2 ^ 64 → length (lineOf (Known row)) ≤ lineMost
+  pub unknown-most : length (lineOf Unknown) ≤ lineMost
   pub numbered-most : (number : ℕ) (line : Line) → number < 2 ^ 64 → length (lineOf line) ≤ lineMost → length (numberedLine number line) ≤ numberedMost
   pub reached : length (lineOf (Accepted (2 ^ 64 - 1) (2 ^ 64 - 1))) ≡ lineMost
   pub numbered-reached : length (numberedLine (2 ^ 64 - 1) (Accepted (2 ^ 64 - 1) (2 ^ 64 - 1))) ≡ numberedMost

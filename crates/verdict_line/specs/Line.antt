@@ -1,4 +1,4 @@
--- The lines that the programs write, as their bytes: docs/RULES.md, 'The program' and 'A recording'.
+-- The lines that the programs write, as their bytes: docs/RULES.md, 'The program', 'A known id' and 'A recording'.
 use mathlib.Core.Path.{_≡_}
 use mathlib.Core.Bool.{cond}
 use mathlib.Core.List.{List, [], _∷_, _++_}
@@ -9,7 +9,7 @@ use Rattle.octets.specs.Bytes.{written}
 use Rattle.refusal.specs.Number.{numberOf}
 use Rattle.verdict_line.specs.Decimal.{decimal}
 use Rattle.verdict_line.specs.declared.Line.{Line}
-use Rattle.verdict_line.specs.declared.Line.the-variants.{Accepted, Refused, Unreadable, Skipped, Cut}
+use Rattle.verdict_line.specs.declared.Line.the-variants.{Accepted, Refused, Unreadable, Skipped, Cut, Known, Unknown}
 
 -- the bytes of the longest line
 abbrev pub lineMost : ℕ
@@ -18,6 +18,10 @@ lineMost = 63
 -- and with a number in front
 abbrev pub numberedMost : ℕ
 numberedMost = 84
+
+-- the bytes of the longest word in front of a number of twenty digits and a newline
+abbrev pub wordMost : ℕ
+wordMost = 42
 
 -- `accepted row `, a space at the end
 abbrev pub acceptedRow : List ℕ
@@ -43,6 +47,14 @@ skippedLine = 115 ∷ 107 ∷ 105 ∷ 112 ∷ 112 ∷ 101 ∷ 100 ∷ 10 ∷ []
 abbrev pub cutLine : List ℕ
 cutLine = 99 ∷ 117 ∷ 116 ∷ 10 ∷ []
 
+-- `known row `, a space at the end
+abbrev pub knownRow : List ℕ
+knownRow = 107 ∷ 110 ∷ 111 ∷ 119 ∷ 110 ∷ 32 ∷ 114 ∷ 111 ∷ 119 ∷ 32 ∷ []
+
+-- `unknown` and a newline
+abbrev pub unknownLine : List ℕ
+unknownLine = 117 ∷ 110 ∷ 107 ∷ 110 ∷ 111 ∷ 119 ∷ 110 ∷ 10 ∷ []
+
 abbrev pub space : List ℕ
 space = 32 ∷ []
 
@@ -52,15 +64,18 @@ newline = 10 ∷ []
 unfoldable pub acceptedLine : ℕ → ℕ → List ℕ
 acceptedLine row counter = acceptedRow ++ decimal row ++ counterWord ++ decimal counter ++ newline
 
-unfoldable pub refusedLine : ℕ → List ℕ
-refusedLine number = refusedWord ++ decimal number ++ newline
+-- a word and a number
+unfoldable pub wordedLine : List ℕ → ℕ → List ℕ
+wordedLine word number = word ++ decimal number ++ newline
 
 abbrev pub lineOf : Line → List ℕ
 lineOf (Accepted row counter) = acceptedLine row counter
-lineOf (Refused refusal) = refusedLine (numberOf refusal)
+lineOf (Refused refusal) = wordedLine refusedWord (numberOf refusal)
 lineOf Unreadable = unreadableLine
 lineOf Skipped = skippedLine
 lineOf Cut = cutLine
+lineOf (Known row) = wordedLine knownRow row
+lineOf Unknown = unknownLine
 
 -- with a record's number in front
 unfoldable pub numberedLine : ℕ → Line → List ℕ

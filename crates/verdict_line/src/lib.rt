@@ -1,16 +1,18 @@
-// The lines that the programs write, newline included: docs/RULES.md, 'The program' and 'A recording'.
+// The lines that the programs write, newline included: docs/RULES.md, 'The program', 'A known id' and 'A recording'.
 //   accepted row R counter C
 //   refused N
 //   unreadable
 //   skipped
 //   cut
+//   known row R
+//   unknown
 // Those of a recording's records have the record's number and a space in front. Numbers are decimal, without leading zeros.
 // Not here: reading the files and judging what they hold.
 ghost use mathlib.Core.Path.{_≡_};
 ghost use Prim.Native.Nat.{_+_, _≤_};
 ghost use lib.ListN.{length};
 ghost use Rattle.verdict_line.specs.Decimal.{decimal};
-ghost use Rattle.verdict_line.specs.Line.{lineMost, numberedMost, acceptedLine, refusedLine, lineOf, numberedLine};
+ghost use Rattle.verdict_line.specs.Line.{lineMost, numberedMost, wordMost, acceptedLine, wordedLine, lineOf, numberedLine};
 ghost use Rattle.verdict_line.specs.Line.{PutAt, Made, sizeIn, outAfter};
 use refusal::Refusal;
 
@@ -21,7 +23,7 @@ pub const LINE_MOST: usize = 63;
 pub const NUMBERED_MOST: usize = 84;
 
 // The character 0; the other digits follow it.
-const DIGIT_ZERO: u8 = 48;
+pub const DIGIT_ZERO: u8 = 48;
 
 // What a line says.
 pub enum Line {
@@ -29,12 +31,16 @@ pub enum Line {
     Accepted(usize, u64),
     // The card or the message is refused.
     Refused(Refusal),
-    // A file is missing, can't be read or is too large, or a recording is no capture that is judged.
+    // A file is missing, can't be read or is too large, a recording is no capture that is judged, or an argument is no id.
     Unreadable,
     // A recording's record carries nothing to judge.
     Skipped,
     // A recording ends inside a record, a record is too large, or a read failed.
     Cut,
+    // The card has the id that was asked for: its row.
+    Known(usize),
+    // It has no such row.
+    Unknown,
 }
 
 // Copies bytes to a place, and returns the place after them.
@@ -72,13 +78,14 @@ fn put_accepted(out: &mut [u8], at: usize, row: u64, counter: u64) -> usize
     put(out, end, b"\n")
 }
 
-// The same for a refusal's number.
-fn put_refused(out: &mut [u8], at: usize, number: u8) -> usize
+// The same for a word and a number.
+fn put_worded(out: &mut [u8], at: usize, word: &[u8], number: u64) -> usize
     requires { ⌜ at + lineMost ≤ length (now out) ⌝ }
-    ensures { λ r. ⌜ Made (now (out .entry)) at (refusedLine number) (now (out .exit)) r ⌝ }
+    requires { ⌜ length (now word) ≤ wordMost ⌝ }
+    ensures { λ r. ⌜ Made (now (out .entry)) at (wordedLine (now (word .entry)) number) (now (out .exit)) r ⌝ }
 {
-    let number_at = put(out, at, b"refused ");
-    let end = put_decimal(out, number_at, number as u64);
+    let number_at = put(out, at, word);
+    let end = put_decimal(out, number_at, number);
     put(out, end, b"\n")
 }
 
@@ -89,10 +96,12 @@ fn put_line(out: &mut [u8], at: usize, line: Line) -> usize
 {
     match line {
         Line::Accepted(row, counter) => put_accepted(out, at, row as u64, counter),
-        Line::Refused(refusal) => put_refused(out, at, refusal::number(refusal)),
+        Line::Refused(refusal) => put_worded(out, at, b"refused ", refusal::number(refusal) as u64),
         Line::Unreadable => put(out, at, b"unreadable\n"),
         Line::Skipped => put(out, at, b"skipped\n"),
         Line::Cut => put(out, at, b"cut\n"),
+        Line::Known(row) => put_worded(out, at, b"known row ", row as u64),
+        Line::Unknown => put(out, at, b"unknown\n"),
     }
 }
 

@@ -692,11 +692,81 @@ static void judgements(void)
     free_servers(servers);
 }
 
+/* Places of row and looks, each a block of its own, which hold 70 and 80 before. */
+struct places {
+    uint64_t *row;
+    uint64_t *looks;
+};
+
+static struct places fresh_places(void)
+{
+    struct places places;
+
+    places.row = (uint64_t *)malloc(sizeof *places.row);
+    places.looks = (uint64_t *)malloc(sizeof *places.looks);
+    EXPECT(places.row && places.looks);
+    *places.row = 70;
+    *places.looks = 80;
+    return places;
+}
+
+/*
+ * A search among the first `count` of so many ids gets this number, and leaves these in the places. The list is a block of
+ * its own that is left unset from `count` on, so that valgrind sees it if an answer depends on more. It stays as it was.
+ */
+static void sought(const uint32_t *ids, size_t size, size_t count, uint32_t id, uint8_t number, uint64_t row,
+                   uint64_t looks)
+{
+    size_t set = (count < size ? count : size) * sizeof *ids;
+    uint32_t *list = (uint32_t *)malloc(size > 0 ? size * sizeof *ids : 1);
+    struct places places = fresh_places();
+
+    EXPECT(list != NULL);
+    memcpy(list, ids, set);
+    EXPECT(rimemagpie_known(list, size, count, id, places.row, places.looks) == number);
+    EXPECT(*places.row == row && *places.looks == looks);
+    EXPECT(memcmp(list, ids, set) == 0);
+    free(list);
+    free(places.row);
+    free(places.looks);
+}
+
+/* Searches for an id: found, both places are written; not found, that of the looks alone; and else neither. */
+static void searches(void)
+{
+    static const uint32_t four[] = {3, 5, 7, 9};
+    static const uint32_t descending[] = {9, 7, 5};
+    static uint32_t many[1026];
+
+    sought(four, 4, 4, 7, RIMEMAGPIE_DONE, 2, 1);
+    sought(four, 4, 4, 5, RIMEMAGPIE_DONE, 1, 2);
+    sought(four, 4, 4, 3, RIMEMAGPIE_DONE, 0, 3);
+    sought(four, 4, 4, 9, RIMEMAGPIE_DONE, 3, 2);
+    sought(four, 4, 4, 4, RIMEMAGPIE_UNKNOWN_SECRET, 70, 3);
+    sought(four, 4, 4, UINT32_MAX, RIMEMAGPIE_UNKNOWN_SECRET, 70, 2);
+    sought(four, 4, 2, 7, RIMEMAGPIE_UNKNOWN_SECRET, 70, 1);
+    sought(four, 4, 0, 3, RIMEMAGPIE_UNKNOWN_SECRET, 70, 0);
+    sought(four, 0, 0, 3, RIMEMAGPIE_UNKNOWN_SECRET, 70, 0);
+    sought(four, 4, 5, 7, RIMEMAGPIE_UNSOUND_BOOK, 70, 80);
+    sought(four, 0, 1, 7, RIMEMAGPIE_UNSOUND_BOOK, 70, 80);
+    sought(four, 4, SIZE_MAX, 7, RIMEMAGPIE_UNSOUND_BOOK, 70, 80);
+    sought(descending, 3, 3, 9, RIMEMAGPIE_UNKNOWN_SECRET, 70, 2);
+    for (uint32_t i = 0; i < 1026; i++)
+        many[i] = i + 1;
+    sought(many, 1024, 1024, 0, RIMEMAGPIE_UNKNOWN_SECRET, 70, 11);
+    sought(many, 1024, 1024, 1, RIMEMAGPIE_DONE, 0, 11);
+    for (size_t count = 1; count <= 1024; count++)
+        sought(many, 1024, count, (uint32_t)(count / 2 + 1), RIMEMAGPIE_DONE, count / 2, 1);
+    for (size_t count = 0; count <= 1026; count++)
+        sought(many, 1025, count, 1, RIMEMAGPIE_UNSOUND_BOOK, 70, 80);
+}
+
 int main(void)
 {
     struct book book = book_of_two();
 
     digests();
+    searches();
     messages(240, 273);
     messages(246, 240);
     cards(book);

@@ -8,6 +8,7 @@
 //!   RIMEMAGPIE_LIB_DIR        the folder of both static libraries (target/staticlib)
 //!   RIMEMAGPIE_JUDGE          the program judge (target/bin/judge)
 //!   RIMEMAGPIE_JUDGE_CAPTURE  the program judge_capture (target/bin/judge_capture)
+//!   RIMEMAGPIE_KNOWN          the program known (target/bin/known)
 //! Relative paths are taken from the top of the repository.
 
 #![forbid(unsafe_code)]
@@ -17,6 +18,7 @@ pub mod harness;
 pub mod lent;
 pub mod met;
 pub mod met_forcerenew;
+pub mod met_known;
 pub mod met_pieces;
 pub mod outside;
 pub mod pieces;
@@ -24,3 +26,4 @@ pub mod programs;
 pub mod random;
 pub mod recordings;
 pub mod runs;
+pub mod searches;

@@ -35,6 +35,11 @@ pub fn judge_capture() -> PathBuf {
     built("RIMEMAGPIE_JUDGE_CAPTURE", "target/bin/judge_capture", None)
 }
 
+/// The program known.
+pub fn known() -> PathBuf {
+    built("RIMEMAGPIE_KNOWN", "target/bin/known", None)
+}
+
 /// Something that must have been built first, where the variable says or else at its usual place.
 fn built(variable: &str, usual: &str, file: Option<&str>) -> PathBuf {
     let named = env::var(variable).unwrap_or(usual.to_string());

@@ -12,7 +12,7 @@ use std::sync::mpsc::{self, Receiver};
 use std::thread;
 use std::time::{Duration, SystemTime};
 
-/// The card's name, in both programs.
+/// The card's name, in every program.
 pub const CARD: &str = "book.card";
 
 /// What stands at a name.
@@ -89,7 +89,7 @@ fn writing_end(pipe: &Path) -> File {
     end.expect("a pipe can be opened")
 }
 
-/// Feeds a pipe with pieces, of which there is no end, until a write fails, and then says how.
+/// Feeds a pipe with pieces, mostly without end, until a write fails, and then says how.
 pub fn fed(
     pipe: PathBuf,
     mut pieces: impl Iterator<Item = Vec<u8>> + Send + 'static,
@@ -107,6 +107,16 @@ pub fn fed(
 /// What a program writes in a folder in which a pipe, which gives its bytes a piece to a read,
 /// stands in place of a file.
 pub fn judged_in_pieces(program: &Path, folder: &Folder, name: &str, pieces: &[&[u8]]) -> String {
+    run_on_pieces(&mut Command::new(program), folder, name, pieces)
+}
+
+/// The same of a program with its arguments.
+pub fn run_on_pieces(
+    command: &mut Command,
+    folder: &Folder,
+    name: &str,
+    pieces: &[&[u8]],
+) -> String {
     // Long enough for a read between two pieces; less where there are many.
     let pause = if pieces.len() > 20 { 2 } else { 20 };
     let pipe = pipe(folder, name);
@@ -118,7 +128,7 @@ pub fn judged_in_pieces(program: &Path, folder: &Folder, name: &str, pieces: &[&
                 thread::sleep(Duration::from_millis(pause));
             }
         });
-        let written = run_well(Command::new(program).current_dir(folder.path()));
+        let written = run_well(command.current_dir(folder.path()));
         // A program that never opened the pipe leaves its writer waiting: it must not wait forever.
         drop(File::options().read(true).custom_flags(O_NONBLOCK).open(&pipe));
         written

@@ -1,12 +1,13 @@
 //! Each entry of the C interface beside the second implementation: the number returned, the places
 //! of results, and all lent buffers whole after every call, refused ones too.
 
-use compare::generate::{books, cards, forcerenew as by_nonce, messages, servers};
+use compare::generate::{books, cards, forcerenew as by_nonce, lists, messages, servers};
 use compare::harness::{compare, on_bytes, same, same_items, Difference, Tally};
 use compare::lent::{Lent, LentBook, LentServers};
 use compare::random::Random;
 use compare::runs::any_id;
-use compare::{met, met_forcerenew};
+use compare::searches::{asked, Places, Question};
+use compare::{met, met_forcerenew, met_known};
 use reference::book::SLOT;
 use reference::card::{card_of_rows, rows_of_card};
 use reference::refusal::number_of;
@@ -210,6 +211,37 @@ fn book_and_message(random: &mut Random) -> (Book, Vec<u8>) {
         books::spoil(random, &mut book);
     }
     (book, message)
+}
+
+#[test]
+fn known() {
+    let mut tally = Tally::new("known, by ids and count");
+    let mut looks = Tally::new("known, by looks");
+    compare("known", &[0, 1, 10], |random| {
+        let (ids, count, id) = lists::any(random);
+        let lent = Lent::new(&ids, random);
+        let question = Question {
+            ids: lent.items(),
+            count,
+            id,
+        };
+        let before = Places {
+            row: random.u64(),
+            looks: random.u64(),
+        };
+        let (number, after) = asked(&question, before)?;
+        tally.count(met_known::by_search(&question, number));
+        if number != 1 {
+            looks.count(after.looks);
+        }
+        lent.holds("ids", &ids)?;
+        Ok(number)
+    });
+    tally.print();
+    tally.require(&met_known::SOUGHT.map(String::from));
+    tally.forbid(&met_known::NOT_SOUGHT.map(String::from));
+    looks.print();
+    looks.require(&[0, 1, 2, 3, 4, 5, 6, 7, 8, 9, 10, 11]);
 }
 
 #[test]

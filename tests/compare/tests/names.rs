@@ -229,7 +229,7 @@ fn parameters_are_the_same_in_rattle_c_and_rust() {
         ")",
         name_in_rust,
     );
-    assert_eq!(entries.len(), 13);
+    assert_eq!(entries.len(), 14);
     let in_order = |mut entries: Vec<Vec<String>>| {
         entries.sort();
         entries
@@ -335,10 +335,16 @@ fn fields_of(name: &str, path: &str) -> Vec<String> {
     lines.filter_map(name).collect()
 }
 
+/// The entry that is lent a list of ids and no book.
+const LENT_IDS_ALONE: &str = "known";
+
 /// In how many entries of the header the parts stand, in this order.
 fn entries_with(parts: &[String]) -> usize {
     let mut lent = 0;
     for entry in entries_in_header() {
+        if entry[0] == LENT_IDS_ALONE {
+            continue;
+        }
         if let Some(at) = entry.iter().position(|name| *name == parts[0]) {
             assert_eq!(entry[at..at + parts.len()], *parts, "{}", entry[0]);
             lent += 1;

@@ -4,10 +4,11 @@
 use compare::runs::lend;
 use reference::examples::{
     accepted_by_b, accepted_by_b_with_82, book_b, book_b_not_heard, hex, refused_by_b, rfc_2202,
-    CARDS_B, CARD_B_NOT_HEARD, CARD_EMPTY, NEW_CARD_B, OLD_CARD_B, RFC_1321,
+    searches, SearchExample, CARDS_B, CARD_B_NOT_HEARD, CARD_EMPTY, NEW_CARD_B, OLD_CARD_B,
+    RFC_1321,
 };
 use reference::Book;
-use rimemagpie::{c, card_move, Accepted, Form, Refusal};
+use rimemagpie::{c, card_move, Accepted, Form, Refusal, Sought};
 
 #[test]
 fn rfc_1321_test_suite() {
@@ -147,5 +148,23 @@ fn example_10_key_lengths() {
         book.lengths[0] = length;
         let answer = lend(&mut book).card_write(&mut [0; 200]);
         assert_eq!(answer, expected);
+    }
+}
+
+#[test]
+fn example_12_searches() {
+    for SearchExample {
+        ids,
+        count,
+        id,
+        answer,
+    } in searches()
+    {
+        let expected = answer.map(|sought| Sought {
+            row: sought.row,
+            looks: sought.looks,
+        });
+        let found = rimemagpie::known(&ids, count, id).map_err(Refusal::number);
+        assert_eq!(found, expected, "{id} among {count} of {} ids", ids.len());
     }
 }

@@ -1,7 +1,7 @@
 //! The Rust wrapper beside the second implementation: what it makes of the numbers and places of
 //! the C interface.
 
-use compare::generate::{books, cards, forcerenew, messages, servers};
+use compare::generate::{books, cards, forcerenew, lists, messages, servers};
 use compare::harness::{cases, for_each_case, same, Difference};
 use compare::random::Random;
 use compare::runs::{any_id, lend, lend_servers, Implementation, Library, Reference};
@@ -56,6 +56,21 @@ fn check_key_and_seal() {
         same_check(&book, &message)?;
         same_seal(&book, id, &message)
     });
+}
+
+/// An id that isn't found is an answer with its looks, and the only refusal is 1.
+#[test]
+fn known() {
+    for_each_case("wrapper known", some_cases(), |random| {
+        let (ids, count, id) = lists::any(random);
+        let expected = numbered_reference(reference::known(&ids, count, id));
+        let found = numbered(rimemagpie::known(&ids, count, id));
+        let expected = expected.map(|sought| (sought.row, sought.looks));
+        let found = found.map(|sought| (sought.row, sought.looks));
+        same("row and looks", &expected, &found)
+    });
+    let long = vec![0; 1_025];
+    assert_eq!(rimemagpie::known(&long, 0, 0), Err(Refusal::UnsoundBook));
 }
 
 /// Two books that differ in every byte of their key stores print the same text.

@@ -3,6 +3,7 @@
 //! so that every implementation can be held against them.
 
 use crate::book::Book;
+use crate::known::Sought;
 use crate::message::{AUTHENTICATION, COOKIE, COOKIE_AT, RELAY_AGENT};
 
 /// RFC 1321's test suite (appendix A.5): message and digest.
@@ -243,6 +244,53 @@ pub fn accepted_by_b_with_82() -> Vec<Vec<u8>> {
 const ACCEPTED_MAC_WITH_53: [u8; 16] = [
     0xf0, 0x39, 0x05, 0x27, 0xd7, 0x64, 0x60, 0x18, 0xea, 0xc3, 0x38, 0xd7, 0xb6, 0xd5, 0x9b, 0x6b,
 ];
+
+/// A search for an id among the first `count` of a list, and what it comes to: row and looks, or the
+/// number 1.
+pub struct SearchExample {
+    pub ids: Vec<u32>,
+    pub count: usize,
+    pub id: u32,
+    pub answer: Result<Sought, u8>,
+}
+
+/// Bench example 12.
+pub fn searches() -> Vec<SearchExample> {
+    let found = |row, looks| {
+        let row = Some(row);
+        Ok(Sought { row, looks })
+    };
+    let not_found = |looks| Ok(Sought { row: None, looks });
+    let of_four = [
+        (4, 7, found(2, 1)),
+        (4, 5, found(1, 2)),
+        (4, 3, found(0, 3)),
+        (4, 9, found(3, 2)),
+        (4, 4, not_found(3)),
+        (4, 1, not_found(3)),
+        (4, 8, not_found(2)),
+        (4, 10, not_found(2)),
+        (2, 7, not_found(1)),
+        (0, 3, not_found(0)),
+        (0, 7, not_found(0)),
+        (5, 7, Err(1)),
+    ];
+    let example = |ids: &[u32], (count, id, answer)| SearchExample {
+        ids: ids.to_vec(),
+        count,
+        id,
+        answer,
+    };
+    let mut searches: Vec<SearchExample> = of_four
+        .into_iter()
+        .map(|question| example(&[3, 5, 7, 9], question))
+        .collect();
+    searches.push(example(&[9, 7, 5], (3, 9, not_found(2))));
+    let above_0: Vec<u32> = (1..=1_025).collect();
+    searches.push(example(&above_0[..1_024], (1_024, 0, not_found(11))));
+    searches.push(example(&above_0, (1_025, 0, Err(1))));
+    searches
+}
 
 /// The recording of bench example 9's message, put right, little-endian and big-endian: a file's
 /// header, and one record of 316 bytes.

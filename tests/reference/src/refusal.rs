@@ -6,7 +6,7 @@
 #[repr(u8)]
 pub enum Refusal {
     /// The book is not sound; for reading a card, the lent sizes are not; for FORCERENEW by nonce,
-    /// the server rows are not.
+    /// the server rows are not; for `known`, there are too many ids, or fewer than the count.
     UnsoundBook = 1,
     /// The message is below 241 or above 1,472 bytes.
     MessageSize = 2,
@@ -57,7 +57,8 @@ impl Refusal {
     }
 }
 
-/// The number of an answer: 0 where it isn't a refusal.
+/// The number of an answer: 0 where it isn't a refusal. (Of `known` an answer may be 10: its own
+/// function tells.)
 pub fn number_of<T>(answer: &Result<T, Refusal>) -> u8 {
     match answer {
         Ok(_) => 0,

@@ -2,11 +2,11 @@
 //! program is run by the tests beside the library.)
 
 use reference::examples::{
-    accepted_by_b, accepted_by_b_with_82, book_b, book_b_not_heard, refused_by_b, CARDS_B,
-    CARD_B_NOT_HEARD, CARD_EMPTY, NEW_CARD_B, OLD_CARD_B,
+    accepted_by_b, accepted_by_b_with_82, book_b, book_b_not_heard, refused_by_b, searches,
+    SearchExample, CARDS_B, CARD_B_NOT_HEARD, CARD_EMPTY, NEW_CARD_B, OLD_CARD_B,
 };
 use reference::refusal::number_of;
-use reference::{card_move, card_read, card_write, check, Accepted, Book, Form, Refusal};
+use reference::{card_move, card_read, card_write, check, known, Accepted, Book, Form, Refusal};
 
 #[test]
 fn example_1_cards_of_b() {
@@ -117,4 +117,18 @@ fn example_10_key_lengths() {
     assert!(book.is_sound());
     book.lengths[0] = 65;
     assert!(!book.is_sound());
+}
+
+#[test]
+fn example_12_searches() {
+    for SearchExample {
+        ids,
+        count,
+        id,
+        answer,
+    } in searches()
+    {
+        let found = known(&ids, count, id).map_err(Refusal::number);
+        assert_eq!(found, answer, "{id} among {count} of {} ids", ids.len());
+    }
 }

@@ -10,8 +10,8 @@ returns c = let a = c .before .before .before .before .before .line .given .1 in
 returns-2 : tie.Need-returns-2
 returns-2 c =
     let n = c .before .before .before in
-    let a = n .before .before .before .line2 .given .1 in
-    rw (a, ← (n .number .ensures)) (c .before .before .put-refused .ensures)
+    let a = n .before .before .before .before .line2 .given .1 in
+    rw (a, ← (n .number .ensures)) (c .before .before .put-worded .ensures)
 
 returns-3 : tie.Need-returns-3
 returns-3 c =
@@ -28,6 +28,14 @@ returns-5 c =
     let d = c .before .before in
     rw (d .before .before .before .enum-told3 .given .1) (record { put = d .put3 .ensures; most = omega arith })
 
+returns-6 : tie.Need-returns-6
+returns-6 c = let a = c .before .before .before .before .before .before .line3 .given .1 in rw a (c .before .before .put-worded2 .ensures)
+
+returns-7 : tie.Need-returns-7
+returns-7 c =
+    let d = c .before .before in
+    rw (d .before .before .before .enum-told4 .given .1) (record { put = d .put4 .ensures; most = omega arith })
+
 pub put-line-spec : {M : Type 1} → statement M
 put-line-spec =
     tie.close
@@ -35,7 +43,15 @@ put-line-spec =
     (λ c. search needs)
     (λ c κs. search needs)
     (λ c. search needs)
+    (λ c. search needs)
     (λ c κs. search needs)
+    (λ c. search needs)
+    (λ c κs. search needs)
+    (λ c. search needs)
+    (λ c. search needs)
+    (λ c κs. search needs)
+    (λ c. search needs)
+    (λ c. search needs)
     (λ c κs. search needs)
     (λ c. search needs)
     (λ c. search needs)
@@ -55,4 +71,8 @@ put-line-spec =
     (λ c. search needs)
     returns-4
     (λ c. search needs)
-    returns-5)
+    returns-5
+    (λ c. search needs)
+    returns-6
+    (λ c. search needs)
+    returns-7)

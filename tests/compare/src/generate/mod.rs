@@ -1,5 +1,5 @@
-//! Seeded inputs: key books, server rows, messages, cards, their pieces, frames and captures, sound
-//! and spoiled.
+//! Seeded inputs: key books, lists of ids, server rows, messages, cards, their pieces, frames and
+//! captures, sound and spoiled.
 
 pub mod books;
 pub mod captures;
@@ -7,6 +7,7 @@ pub mod cards;
 pub mod drafts;
 pub mod forcerenew;
 pub mod frames;
+pub mod lists;
 pub mod messages;
 pub mod pieces;
 pub mod relays;

@@ -11,7 +11,7 @@ use Rattle.dhcp_message.specs.Seal.{FullForm}
 use Rattle.dhcp_message.specs.declared.Form.the-variants.{Full}
 use Rattle.dhcp_message.proofs.Seals.{full-form}
 use Rattle.key_book.specs.Book.{Book, bookOf, sound, rowOf, keyOf}
-use Rattle.key_book.proofs.Answers.{row-at, row-nothing}
+use Rattle.delayed_auth.proofs.Finding.{sound-ascends, row-at, row-nothing}
 use Rattle.delayed_auth.specs.Admit.{admittedSaid}
 use Rattle.octets.specs.Bytes.{sameBytes}
 use Rattle.octets.proofs.Comparing.{same-equal, same-differ}
@@ -69,6 +69,9 @@ compared c =
 
 -- ---- the needs
 
+row-of-requires : tie.Need-row-of-requires
+row-of-requires c κs = sound-ascends _ (passed (c .before .before .before .before .before .before .before) .0)
+
 returns : tie.Need-returns
 returns c =
     let row = row-nothing _ (sym (c .enum-told .given .1) ∙ c .before .before .row-of .ensures) in
@@ -120,7 +123,7 @@ pub judged-full-spec : {M : Type 1} → statement M
 judged-full-spec =
     tie.close
     (tie.spec
-    (search needs)
+    row-of-requires
     (search needs)
     (search needs)
     returns

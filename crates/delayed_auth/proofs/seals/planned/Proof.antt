@@ -3,7 +3,7 @@ use mathlib.Core.Path.{_≡_, sym, _∙_}
 use mathlib.Core.Option.{some}
 use Rattle.dhcp_message.specs.declared.Form.the-variants.{Full}
 use Rattle.key_book.specs.Book.{Book, bookOf, rowOf}
-use Rattle.key_book.proofs.Answers.{row-at, row-nothing}
+use Rattle.delayed_auth.proofs.Finding.{sound-ascends, row-at, row-nothing}
 use Rattle.delayed_auth.specs.Admit.{admittedForm}
 use Rattle.delayed_auth.proofs.Admits.{full-passed, RowFacts, row-facts}
 use Rattle.delayed_auth.proofs.Plans.{plan-refused, plan-unknown, plan-spent, plan-ready, case-plan}
@@ -33,6 +33,9 @@ facts : (c : tie.After-found) → RowFacts (book (form c)) (c .found .given .0 .
 facts c = row-facts _ _ _ (full-passed _ _ _ (full (form c)) .0) (row c)
 
 -- ---- the needs
+
+row-of-requires : tie.Need-row-of-requires
+row-of-requires c κs = sound-ascends _ (full-passed _ _ _ (full (c .before)) .0)
 
 returns : tie.Need-returns
 returns c =
@@ -65,7 +68,7 @@ planned-spec =
     (search needs)
     (search needs)
     (search needs)
-    (search needs)
+    row-of-requires
     (search needs)
     (search needs)
     returns

@@ -1,0 +1,4 @@
+pub mod Argument
+pub mod Asked
+pub mod Laws
+pub mod Examples
