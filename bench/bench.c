@@ -704,7 +704,7 @@ static void relayed_or_not(void)
 #define ASKED 5000
 
 /* A list of ids that ascend, and ids to ask it for, in no order; every second one is in the list. They are so many that the
- * processor can't learn from one round which way the next one goes. */
+ * processor can hardly learn from one round which way the next one goes. */
 struct list {
     uint32_t ids[IDS_MOST];
     uint32_t asked[ASKED];
@@ -754,7 +754,7 @@ static void make_list(struct list *list, size_t count)
 static void compare_searches(void)
 {
     static const char *const names[] = {"Rimemagpie", "bsearch"};
-    static const size_t counts[] = {256, IDS_MOST};
+    static const size_t counts[] = {16, 64, 256, IDS_MOST};
     static struct list list;
     struct work works[] = {{NULL, our_searches, &list, ASKED}, {NULL, their_searches, &list, ASKED}};
 
