@@ -1,7 +1,7 @@
 /*
  * Times the library beside OpenSSL: MD5, HMAC-MD5, a whole check, a whole seal and a whole judgement of a FORCERENEW, and
  * MD5's work on one block, written out and by tables. Then a check and a seal beside the HMAC-MD5 that they contain, how a
- * check's time grows, and whether an id is known, beside the C library's bsearch.
+ * check's time grows, whether an id is known, beside the C library's bsearch, and two messages side by side, beside nothing.
  *
  * How it measures. What is compared stands in one table and takes turns: each round times one batch of each, in another
  * order every round, so that whatever slows the machine meets all of them alike. A time is the median over all rounds,
@@ -814,6 +814,70 @@ static void compare_all_with_own_mac(void)
     compare_with_own_mac(1472);
 }
 
+/* ---- two messages side by side ---- */
+
+#define OPTIONS_MOST 614 /* empty options besides option 90 */
+#define EQUAL_SIZE 300
+#define COMPARED 50
+
+struct pair {
+    uint8_t first[MESSAGE_MOST], second[MESSAGE_MOST], room[RIMEMAGPIE_COMPARISON_MOST];
+    size_t first_size, second_size;
+    uint64_t size;
+    size_t calls;
+};
+
+static void our_comparisons(void *with)
+{
+    struct pair *pair = with;
+
+    for (size_t i = 0; i < pair->calls; i++)
+        if (rimemagpie_compare(pair->first, pair->first_size, pair->second, pair->second_size, pair->room, sizeof pair->room,
+                               &pair->size) != 0)
+            fail("a comparison was refused");
+}
+
+/* A message with this byte in its whole header, an option 90 of so many zero bytes, and one code many times. Returns its size. */
+static size_t make_options(uint8_t *message, uint8_t header, uint8_t auth_length, uint8_t code, size_t count)
+{
+    static const uint8_t cookie[] = {99, 130, 83, 99};
+    size_t at = 240;
+
+    memset(message, 0, MESSAGE_MOST);
+    memset(message, header, 236);
+    memcpy(message + 236, cookie, sizeof cookie);
+    message[at++] = 90;
+    message[at++] = auth_length;
+    at += auth_length;
+    for (size_t i = 0; i < count; i++) {
+        message[at++] = code;
+        message[at++] = 0;
+    }
+    message[at++] = 255;
+    return at;
+}
+
+/* The pair with the longest lines, each option looked for in vain in the other message; and two equal messages. */
+static void time_comparisons(void)
+{
+    static struct pair pair;
+    struct work work = {NULL, our_comparisons, &pair, 1};
+    double ns;
+
+    printf("\nTwo messages side by side:\n");
+    pair.first_size = make_options(pair.first, 0, 1, 200, OPTIONS_MOST);
+    pair.second_size = make_options(pair.second, 1, 0, 201, OPTIONS_MOST);
+    pair.calls = work.calls;
+    measure(&work, 1, &ns);
+    printf("the longest lines, %zu bytes: %.0f ns\n", (size_t)pair.size, ns);
+    make_options(pair.first, 0, 31, 54, 3);
+    make_options(pair.second, 0, 31, 54, 3);
+    pair.first_size = pair.second_size = EQUAL_SIZE;
+    pair.calls = work.calls = COMPARED;
+    measure(&work, 1, &ns);
+    printf("two equal messages of %d bytes: %.0f ns\n", EQUAL_SIZE, ns);
+}
+
 int main(void)
 {
     printf("Beside:  %s\n", OpenSSL_version(OPENSSL_VERSION));
@@ -829,5 +893,6 @@ int main(void)
     growth_with_rows();
     relayed_or_not();
     compare_searches();
+    time_comparisons();
     return 0;
 }

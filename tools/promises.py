@@ -126,6 +126,12 @@ THEOREMS = [
     ("file_verdict", "Says", "content-says", "ContentSays"),
     ("file_verdict", "Says", "line-says", "LineSays"),
     ("file_verdict", "Computed", "example-9", "Example9"),
+    ("comparison", "Naming", "names-what-differs", "NamesWhatDiffers"),
+    ("comparison", "Equal", "equal-says", "EqualSays"),
+    ("comparison", "RelayOnly", "relay-only-says", "RelayOnlySays"),
+    ("comparison", "Fitting", "lines-fit", "LinesFit"),
+    ("comparison", "Computed", "comparison-example", "ComparisonExample"),
+    ("comparison_verdict", "Says", "report-says", "ReportSays"),
     ("known_verdict", "Scanning", "argument-says", "ArgumentSays"),
     ("known_verdict", "Numerals", "id-says", "IdSays"),
     ("known_verdict", "Says", "known-line-says", "KnownLineSays"),
@@ -168,6 +174,8 @@ DATA = [
     ("card_pieces", "Outcome"),
     ("capture", "Record"),
     ("capture", "Records"),
+    ("comparison", "Field"),
+    ("comparison", "Parts"),
     ("demands", "State"),
 ]
 

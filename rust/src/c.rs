@@ -159,6 +159,16 @@ mod header {
             counter: *mut u64,
         ) -> u8;
 
+        pub fn rimemagpie_compare(
+            first: *const u8,
+            first_len: usize,
+            second: *const u8,
+            second_len: usize,
+            room: *mut u8,
+            room_len: usize,
+            size: *mut u64,
+        ) -> u8;
+
         pub fn rimemagpie_card_begin(
             tail: *mut u8,
             kept: *mut u64,
@@ -478,6 +488,21 @@ pub fn forcerenew(
             message.len(),
             kind,
             counter,
+        )
+    }
+}
+
+/// `rimemagpie_compare`.
+pub fn compare(first: &[u8], second: &[u8], room: &mut [u8], size: &mut u64) -> u8 {
+    unsafe {
+        header::rimemagpie_compare(
+            first.as_ptr(),
+            first.len(),
+            second.as_ptr(),
+            second.len(),
+            room.as_mut_ptr(),
+            room.len(),
+            size,
         )
     }
 }

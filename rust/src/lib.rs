@@ -1,6 +1,7 @@
 //! RFC 3118 delayed authentication for DHCPv4 messages: the proved library, as a Rust program uses
 //! it. FORCERENEW by nonce (RFC 6704) is in [`forcerenew`], and reading a card in pieces, as it
-//! arrives, in [`card_pieces`]. Whether an id has a row is asked of [`known`].
+//! arrives, in [`card_pieces`]. Whether an id has a row is asked of [`known`], and what differs in a
+//! message that was recorded in two places of [`comparison`] or [`compare`].
 //!
 //! ```
 //! use rimemagpie::{card_move, Accepted, Book, Form, Refusal, CARD_MOST, HEARD, NOT_HEARD};
@@ -48,11 +49,13 @@
 
 pub mod c;
 pub mod card_pieces;
+mod comparison;
 pub mod forcerenew;
 mod refusal;
 
 use std::fmt;
 
+pub use comparison::{compare, comparison, COMPARISON_MOST};
 pub use refusal::Refusal;
 
 /// The size of the largest card, which is enough room to write or move any.

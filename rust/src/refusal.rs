@@ -55,6 +55,7 @@ refusals! {
     NotByNonce = 19, "option 90 is not by nonce with HMAC-MD5 and a counter";
     WrongType = 20, "option 90's type doesn't go with option 53";
     NoNonce = 21, "a FORCERENEW came, and the server row has no nonce yet";
+    NoRoomForReport = 22, "the lines of a comparison are longer than the room";
 }
 
 impl Refusal {

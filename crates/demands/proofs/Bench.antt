@@ -12,6 +12,7 @@ use Rattle.key_book.proofs.Says.{sound-says}
 use Rattle.key_book.proofs.Computed.{example-10, example-12}
 use Rattle.delayed_auth.specs.declared.Verdict.{Verdict}
 use Rattle.delayed_auth.specs.Check.{checkOf, verdictNumber}
+use Rattle.comparison.proofs.Computed.{comparison-example}
 use Rattle.forcerenew.proofs.Computed.{nonce-examples}
 use Rattle.card_laws.specs.Examples.{bookB}
 use Rattle.card_laws.proofs.Computed.{example-1, marked-cards, example-2}
@@ -59,4 +60,5 @@ bench-table = record {
   example-10 = example-10;
   example-11 = nonce-examples;
   example-12 = example-12;
+  example-13 = comparison-example;
 }

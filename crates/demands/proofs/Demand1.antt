@@ -9,6 +9,7 @@ use Rattle.demands.proofs.DemandSeal.{seal-number, seal-keeps}
 use Rattle.demands.proofs.DemandKnown.{known-number}
 use Rattle.demands.proofs.DemandDigests.{feed-number, finish-number, finish-zeros, digest-number, digest-zeros, hmac-number, hmac-zeros}
 use Rattle.demands.proofs.DemandJudge.{judge-number, judge-keeps}
+use Rattle.demands.proofs.DemandCompare.{compare-number, compare-keeps}
 use Rattle.demands.proofs.DemandPieces.{piece-number, piece-keeps, end-number, end-keeps}
 use Rattle.demands.proofs.DemandCards.{read-number, read-keeps, write-number, write-keeps, move-number, move-keeps}
 
@@ -41,4 +42,6 @@ demand-1 = record {
   card-finish-keeps = end-keeps;
   judge = judge-number;
   judge-keeps = judge-keeps;
+  compare = compare-number;
+  compare-keeps = compare-keeps;
 }

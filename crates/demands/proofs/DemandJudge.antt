@@ -3,9 +3,9 @@ use mathlib.Core.Path.{_≡_, refl, sym, ap, ap₂, _∙_, subst}
 use mathlib.Core.Logic.{_≢_, _⊎_, _↔_, inl, inr}
 use mathlib.Core.Bool.{Bool, true, false, cond, _&&_, not, true≢false, and-eq-true-iff}
 use mathlib.Core.List.{List, [], _∷_}
-use mathlib.Core.Option.{Option, none, some, Option·some-injective, Option·none-ne-some}
-use Prim.Native.Nat.{ℕ, zero, suc, _+_, _≤_, _<_}
-use native.Mathlib.Nat.{add-zero, zero-add}
+use mathlib.Core.Option.{Option, none, some}
+use Prim.Native.Nat.{ℕ, suc, _+_, _≤_, _<_}
+use native.Mathlib.Nat.{zero-add}
 use native.Mathlib.Decide.{decLe}
 use native.Mathlib.Omega.{arith}
 use borrow.Author.Tests.{eq-eqb, ne-eqb, eqb-true}
@@ -17,7 +17,7 @@ use Rattle.refusal.specs.declared.Refusal.{Refusal}
 use Rattle.refusal.specs.declared.Refusal.the-variants.{UnsoundBook, MessageSize, WrongCookie, BrokenOptions, NoAuthentication, RepeatedAuthentication}
 use Rattle.refusal.specs.declared.Refusal.the-variants.{RelayInformation, UnknownSecret, Replay, WrongMac}
 use Rattle.refusal.specs.declared.Refusal.the-variants.{NotByNonce, WrongType, NoNonce}
-use Rattle.refusal.proofs.First.{RightIn, first}
+use Rattle.refusal.proofs.First.{in-place, RightIn, first}
 use Rattle.octets.specs.Bytes.{Bytes, sameBytes}
 use Rattle.octets.proofs.Starts.{starts-true, starts-taken, starts-not}
 use Rattle.octets.proofs.Comparing.{same-equal, equal-same}
@@ -54,22 +54,11 @@ placeIn n (q ∷ l) = cond (eqb (numberOf q) n) 0 (suc (placeIn n l))
 placeOf : Refusal → ℕ
 placeOf r = placeIn (numberOf r) judgingOrder
 
--- each refusal of a list stands at its place, counted from n
-InPlace : ℕ → List Refusal → Type 0
-InPlace n [] = Unit {0}
-InPlace n (q ∷ l) = (n ≡ placeOf q) × InPlace (suc n) l
-
-in-place : (n : ℕ) (l : List Refusal) → InPlace n l → (i : ℕ) (r : Refusal) → getElem? l i ≡ some r → n + i ≡ placeOf r
-unfolding InPlace
-in-place n [] h i r e = absurd (Option·none-ne-some r e)
-in-place n (q ∷ l) h zero r e = add-zero n ∙ h .0 ∙ ap placeOf (Option·some-injective q r e)
-in-place n (q ∷ l) h (suc i) r e = let shifted : n + suc i ≡ suc n + i = omega arith in shifted ∙ in-place (suc n) l (h .1) i r e
-
 place-at : (i : ℕ) (r : Refusal) → getElem? judgingOrder i ≡ some r → i ≡ placeOf r
-unfolding InPlace placeOf placeIn
+unfolding placeOf placeIn
 place-at i r e =
     sym (zero-add i)
-    ∙ in-place 0 judgingOrder (refl, (refl, (refl, (refl, (refl, (refl, (refl, (refl, (refl, (refl, (refl, (refl, (refl, tt))))))))))))) i r e
+    ∙ in-place placeOf 0 judgingOrder (refl, (refl, (refl, (refl, (refl, (refl, (refl, (refl, (refl, (refl, (refl, (refl, (refl, tt))))))))))))) i r e
 
 -- ---- what applies
 

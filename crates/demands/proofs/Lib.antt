@@ -17,6 +17,7 @@ pub mod DemandKnown
 pub mod DemandDigests
 pub mod DemandCards
 pub mod DemandPieces
+pub mod DemandCompare
 pub mod Demand1
 pub mod Computing
 pub mod Bench

@@ -8,6 +8,7 @@ use Rattle.dhcp_message.specs.Said.{formOf, formNumber}
 use Rattle.dhcp_message.specs.Bench.{messageOf, fullAuth, someMac, relayInTheMiddle, BenchExamples}
 use Rattle.key_book.specs.Examples.{Example10, Example12}
 use Rattle.delayed_auth.specs.Check.{checkOf, verdictNumber}
+use Rattle.comparison.specs.Examples.{ComparisonExample}
 use Rattle.forcerenew.specs.Examples.{NonceExamples}
 use Rattle.card_laws.specs.Examples.{bookB, Example1, MarkedCards, Example2}
 
@@ -35,3 +36,5 @@ pub record BenchTable : Type 0 where
   pub example-11 : NonceExamples
   -- by halving
   pub example-12 : Example12
+  -- two messages side by side
+  pub example-13 : ComparisonExample

@@ -1,6 +1,6 @@
 -- Demand 1 (docs/RULES.md, 'The demands' and 'Numbers'): any bytes, any book. For each entry it is said when each of its numbers applies, in the
--- rules' words; the entry gives the lowest number that applies, 0 exactly where none does. The judgement by a nonce has an order of its own, and gives the
--- first in it. A refusal alters nothing lent; with 14 the digest or MAC handed back is 16 zero bytes.
+-- rules' words; the entry gives the lowest number that applies, 0 exactly where none does. The judgement by a nonce and the comparison of two messages have
+-- orders of their own, and give the first in them. A refusal alters nothing lent; with 14 the digest or MAC handed back is 16 zero bytes.
 -- Nothing is asked of the book; of a message and a card only that their elements are bytes. Its one proof is proofs/Demand1.antt.
 use Prim.Native.Nat.{ℕ, _+_, _≤_, _<_}
 use mathlib.Core.Path.{_≡_}
@@ -11,12 +11,12 @@ use mathlib.Core.Option.{none, some}
 use lib.ListN.{length, getD, take, drop}
 use Rattle.refusal.specs.Number.{numberOf, done}
 use Rattle.refusal.specs.Lowest.{Lowest}
-use Rattle.refusal.specs.First.{First}
+use Rattle.refusal.specs.First.{First, FirstOf}
 use Rattle.refusal.specs.declared.Refusal.{Refusal}
 use Rattle.refusal.specs.declared.Refusal.the-variants.{UnsoundBook, UnknownSecret, Replay, WrongMac, CounterSpent, TooLong}
 use Rattle.refusal.specs.declared.Refusal.the-variants.{MalformedCard, NoRoomForCard, NoRoomForRows, RowNotHeard}
 use Rattle.refusal.specs.declared.Refusal.the-variants.{MessageSize, WrongCookie, BrokenOptions, NoAuthentication, RepeatedAuthentication}
-use Rattle.refusal.specs.declared.Refusal.the-variants.{RelayInformation, OtherAuthentication, NotByNonce, WrongType, NoNonce}
+use Rattle.refusal.specs.declared.Refusal.the-variants.{RelayInformation, OtherAuthentication, NotByNonce, WrongType, NoNonce, NoRoomForReport}
 use Rattle.md5.specs.declared.Digest.{Digest}
 use Rattle.md5.specs.Block.{blockSize}
 use Rattle.md5.specs.Entries.{digestMost, noDigest, feedOf, finishOf, md5Of}
@@ -25,6 +25,7 @@ use Rattle.octets.specs.Bytes.{Bytes}
 use Rattle.dhcp_message.specs.Said.{says, saidOf, named}
 use Rattle.dhcp_message.specs.Image.{imageOf}
 use Rattle.dhcp_message.specs.Layout.{lengthAt, methodAt}
+use Rattle.dhcp_message.specs.Message.{Passes27}
 use Rattle.dhcp_message.specs.Numbers.{Applies}
 use Rattle.dhcp_message.specs.Types.{messageTypeOf}
 use Rattle.dhcp_message.specs.declared.MessageType.the-variants.{Stated}
@@ -48,6 +49,7 @@ use Rattle.forcerenew.specs.Layout.{nonceLength, byNonce, givesNonce, ordersRen
 use Rattle.forcerenew.specs.Rows.{noneYet, heard, Servers, SoundRows, nonceAt}
 use Rattle.forcerenew.specs.Shown.{counterIn, typeIn, valueIn, imageAt}
 use Rattle.forcerenew.specs.Judging.{judgeOf, judgedOf, judgedNumber, serversAfter}
+use Rattle.comparison.specs.Entry.{textFor, compareOf, comparedNumber, roomCompared}
 use Rattle.demands.specs.Accepts.{OptionAt}
 
 -- ---- when a number applies
@@ -149,6 +151,32 @@ pub data JudgeApplies (s : Servers) (k : ℕ) (m : List ℕ) : Refusal → Type 
       → JudgeApplies s k m Replay
   differs : (o : ℕ) → OptionAt m o → typeIn m o ≡ ordersRenewal → valueIn m o ≢ hmac (nonceAt s k) (imageAt m o) → JudgeApplies s k m WrongMac
 
+-- what may be wrong in a comparison: the first message, the second, or the room
+pub data CompareFault : Type 0 where
+  of-first : Refusal → CompareFault
+  of-second : Refusal → CompareFault
+  of-room : CompareFault
+
+abbrev pub compareNumber : CompareFault → ℕ
+compareNumber (of-first r) = numberOf r
+compareNumber (of-second r) = numberOf r
+compareNumber of-room = numberOf NoRoomForReport
+
+-- the order in which a comparison looks for them: 2 to 7 of the first message, 2 to 7 of the second, 22
+abbrev pub compareOrder : List CompareFault
+compareOrder =
+    of-first MessageSize ∷ of-first WrongCookie ∷ of-first BrokenOptions
+    ∷ of-first NoAuthentication ∷ of-first RepeatedAuthentication ∷ of-first RelayInformation
+    ∷ of-second MessageSize ∷ of-second WrongCookie ∷ of-second BrokenOptions
+    ∷ of-second NoAuthentication ∷ of-second RepeatedAuthentication ∷ of-second RelayInformation
+    ∷ of-room ∷ []
+
+-- a comparison: 2 to 7 as each message has it; the lines, where there are any, are longer than the room
+pub data CompareApplies (first second room : List ℕ) : CompareFault → Type 0 where
+  first-has : {r : Refusal} → Applies first r → numberOf r < numberOf OtherAuthentication → CompareApplies first second room (of-first r)
+  second-has : {r : Refusal} → Applies second r → numberOf r < numberOf OtherAuthentication → CompareApplies first second room (of-second r)
+  small-room : Passes27 first → Passes27 second → length room < length (textFor first second) → CompareApplies first second room of-room
+
 -- ---- demand 1: for every entry the number, and what a refusal leaves
 
 pub record Demand1 : Type 0 where
@@ -188,3 +216,7 @@ pub record Demand1 : Type 0 where
   -- the judgement by a nonce: the first in `judgingOrder` that applies
   pub judge : (s : Servers) (k : ℕ) (m : List ℕ) → Bytes m → First judgingOrder (JudgeApplies s k m) (judgedNumber (judgedOf (judgeOf s k m)))
   pub judge-keeps : (s : Servers) (k : ℕ) (m : List ℕ) → judgedNumber (judgedOf (judgeOf s k m)) ≢ done → serversAfter k (judgeOf s k m) s ≡ s
+  -- the comparison of two messages: the first in `compareOrder` that applies
+  pub compare : (first second room : List ℕ) → Bytes first → Bytes second
+      → FirstOf compareOrder compareNumber (CompareApplies first second room) (comparedNumber (compareOf first second (length room)))
+  pub compare-keeps : (first second room : List ℕ) → comparedNumber (compareOf first second (length room)) ≢ done → roomCompared first second room ≡ room

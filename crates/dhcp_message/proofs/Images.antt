@@ -25,16 +25,16 @@ use Rattle.dhcp_message.proofs.Covers.{Apart, Fits, image-before, image
 -- ---- option 82 taken out of the bytes
 
 module _ {m : List ℕ} {ts : List Token} {rest : List ℕ} (p : Passing m ts rest) where
-  abbrev bytes : List Token → List ℕ
+  abbrev pub bytes : List Token → List ℕ
   bytes us = take 240 m ++ (encode us ++ (255 ∷ rest))
 
-  abbrev cut : ℕ
+  abbrev pub cut : ℕ
   cut = offsetOf 82 ts
 
-  abbrev gap : ℕ
+  abbrev pub gap : ℕ
   gap = length (optionOf 82 ts)
 
-  abbrev Cuts : Type 0
+  abbrev pub Cuts : Type 0
   Cuts = (cut + gap ≤ length m) × (take cut m ++ drop (cut + gap) m ≡ bytes (without 82 ts))
 
   cuts-none : count 82 ts ≡ 0 → Cuts
@@ -62,7 +62,7 @@ module _ {m : List ℕ} {ts : List Token} {rest : List ℕ} (p : Passing m ts re
         ap₂ (λ (a b : List ℕ). a ++ b) t d ∙ simp (encode-append, append-assoc) refl ∙ ap bytes (sym (without-at 82 s (p .most-82))),
       )
 
-  cuts : Cuts
+  pub cuts : Cuts
   cuts = by (count 82 ts) refl
     where
       by : (n : ℕ) → count 82 ts ≡ n → Cuts

@@ -1,12 +1,12 @@
 pub mod Decoding
 pub mod Tokens
-mod Turns
+pub mod Turns
 mod Found
 pub mod Passing
 mod Shapes
 pub mod Forms
 pub mod FullForms
-mod Headers
+pub mod Headers
 mod Covers
 pub mod Images
 mod Fields

@@ -12,7 +12,7 @@ use Rattle.dhcp_message.specs.Layout.{magicCookie}
 use Rattle.dhcp_message.specs.Options.{Token, pad, opt, encode, WellFormed, Reads}
 use Rattle.dhcp_message.specs.Message.{count, optionOf, Passes27}
 use Rattle.dhcp_message.specs.Said.{saidBy, saidOf, idOf}
-use Rattle.dhcp_message.specs.Image.{macZero, headWith, headZero, imageOf}
+use Rattle.dhcp_message.specs.Image.{without, macZero, headWith, headZero, imageOf}
 use Rattle.dhcp_message.specs.Relay.{RelayChange, kept, added, replaced, removed, Permitted, Relayed, unchanged, changed}
 use Rattle.dhcp_message.specs.Relay.{Kept, RelayKeeps, AnyHeader, WhereFits, RelayMay}
 use Rattle.dhcp_message.proofs.Decoding.{decode-reads, reads-decode}
@@ -97,7 +97,7 @@ module _ {m n : List ℕ} (r : Permitted m n) where
   abbrev head : List ℕ
   head = headWith (r .hops) (r .giaddr) header
 
-  before : Passing m ts (r .rest)
+  pub before : Passing m ts (r .rest)
   before =
       let t = tokens-of m (r .passes) in
       let p = passing m (t .tokens) (t .rest) (t .checked) in
@@ -115,7 +115,7 @@ module _ {m n : List ℕ} (r : Permitted m n) where
   head-size : length head ≡ 240
   head-size = head-length (r .hops) (r .giaddr) (r .hops-size) (r .giaddr-size) header header-28 ∙ header-size before
 
-  after : Passing n us (r .rest)
+  pub after : Passing n us (r .rest)
   after =
       passing-built n head us (r .rest) (r .becomes) head-size (change .codes-kept)
       (sym (count-without 82 90 auth-not-relay us) ∙ ap (count 90) (change .same) ∙ count-without 82 90 auth-not-relay ts ∙ before .one-90)
@@ -131,13 +131,19 @@ module _ {m n : List ℕ} (r : Permitted m n) where
   said-kept : saidOf n ≡ saidOf m
   said-kept = said-passed after ∙ ap saidBy option-kept ∙ sym (said-passed before)
 
+  -- with hops and giaddr zero the header is the same, and so are the tokens without option 82
+  pub header-kept : headZero (take 240 n) ≡ headZero header
+  header-kept =
+      ap headZero (take-built n head us (r .rest) (r .becomes) head-size)
+      ∙ head-over (r .hops) (r .giaddr) (r .hops-size) (r .giaddr-size) header header-28 (zeros 1) (zeros 4) refl refl
+
+  pub tokens-kept : without 82 us ≡ without 82 ts
+  tokens-kept = change .same
+
   image-kept : imageOf n ≡ imageOf m
   image-kept =
       image-passed after
-      ∙ ap₂ (λ (h : List ℕ) (vs : List Token). h ++ (encode (macZero vs) ++ (255 ∷ r .rest)))
-      (ap headZero (take-built n head us (r .rest) (r .becomes) head-size)
-      ∙ head-over (r .hops) (r .giaddr) (r .hops-size) (r .giaddr-size) header header-28 (zeros 1) (zeros 4) refl refl)
-      (change .same)
+      ∙ ap₂ (λ (h : List ℕ) (vs : List Token). h ++ (encode (macZero vs) ++ (255 ∷ r .rest))) header-kept tokens-kept
       ∙ sym (image-passed before)
 
   bytes-after : Bytes m → Bytes n

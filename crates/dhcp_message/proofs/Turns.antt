@@ -11,9 +11,10 @@ use lib.Seq.{length-take-le, drop-cons, drop-drop}
 use lib.Dec.{leb, eqb}
 use borrow.Author.Tests.{le-leb, lt-leb, ne-eqb, eq-eqb, leb-true}
 use Rattle.dhcp_message.specs.Options.{pad, opt, Parsed, broken, parsed, body, option, code, withToken, step, decode}
-use Rattle.dhcp_message.specs.Scan.{leadOf, hereOf, hereAt, seen90, seen82, seenOf, scanParsed, emptyTally, scanOf}
-use Rattle.dhcp_message.specs.declared.scan.Here.{Here}
-use Rattle.dhcp_message.specs.declared.scan.Here.the-variants.{Broken as HBroken, End as HEnd, Pad as HPad, Opt as HOpt}
+use Rattle.dhcp_message.specs.Standing.{leadOf, hereOf, hereAt}
+use Rattle.dhcp_message.specs.Scan.{seen90, seen82, seenOf, scanParsed, emptyTally, scanOf}
+use Rattle.dhcp_message.specs.declared.Here.{Here}
+use Rattle.dhcp_message.specs.declared.Here.the-variants.{Broken as HBroken, End as HEnd, Pad as HPad, Opt as HOpt}
 use Rattle.dhcp_message.specs.declared.scan.Tally.{Tally}
 use Rattle.dhcp_message.specs.declared.scan.Scan.the-variants.{Broken as SBroken, Whole as SWhole}
 use Rattle.dhcp_message.proofs.Decoding.{decode-cons, decode-nil}

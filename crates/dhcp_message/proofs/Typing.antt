@@ -10,12 +10,13 @@ use lib.Seq.{drop-cons}
 use lib.Dec.{eqb}
 use borrow.Author.Tests.{eq-eqb, ne-eqb}
 use Rattle.dhcp_message.specs.Options.{Token, pad, opt, Parsed, broken, parsed, withToken, decode}
-use Rattle.dhcp_message.specs.Scan.{hereAt, typedBy, typedOf, typedFrom, typeFound, typedParsed}
+use Rattle.dhcp_message.specs.Standing.{hereAt}
+use Rattle.dhcp_message.specs.Scan.{typedBy, typedOf, typedFrom, typeFound, typedParsed}
 use Rattle.octets.specs.Bytes.{Bytes}
 use Rattle.dhcp_message.specs.Message.{count}
 use Rattle.dhcp_message.specs.Numbers.{WhereRead, Has}
 use Rattle.dhcp_message.specs.Types.{bodiesOf, statedBy, statedIn, messageTypeOf, TypeSays}
-use Rattle.dhcp_message.specs.declared.scan.Here.the-variants.{Broken as HBroken, End as HEnd, Pad as HPad, Opt as HOpt}
+use Rattle.dhcp_message.specs.declared.Here.the-variants.{Broken as HBroken, End as HEnd, Pad as HPad, Opt as HOpt}
 use Rattle.dhcp_message.specs.declared.types.Typing.{Typing}
 use Rattle.dhcp_message.specs.declared.types.Typing.the-variants.{NotYet, As, Spoiled}
 use Rattle.dhcp_message.specs.declared.MessageType.{MessageType}
@@ -141,7 +142,7 @@ module _ (c : ℕ) where
   bodies-none (pad ∷ ts) z = bodies-none ts z
   bodies-none (opt e b ∷ ts) z = let h = no-hit c e ts (eqb e c) refl z in rw (h .0) (bodies-none ts (h .1))
 
-  bodies-append : (p q : List Token) → bodiesOf c (p ++ q) ≡ bodiesOf c p ++ bodiesOf c q
+  pub bodies-append : (p q : List Token) → bodiesOf c (p ++ q) ≡ bodiesOf c p ++ bodiesOf c q
   bodies-append [] q = refl
   bodies-append (pad ∷ p) q = bodies-append p q
   bodies-append (opt e b ∷ p) q = by (eqb e c) (bodies-append p q)
@@ -152,7 +153,7 @@ module _ (c : ℕ) where
       by false h = h
 
   -- as many bodies as options
-  bodies-counted : (ts : List Token) → count c ts ≡ length (bodiesOf c ts)
+  pub bodies-counted : (ts : List Token) → count c ts ≡ length (bodiesOf c ts)
   bodies-counted [] = refl
   bodies-counted (pad ∷ ts) = bodies-counted ts
   bodies-counted (opt e b ∷ ts) = by (eqb e c) (bodies-counted ts)

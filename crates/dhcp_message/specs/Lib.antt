@@ -4,6 +4,7 @@ pub mod Message
 pub mod Shape
 pub mod Said
 pub mod Image
+pub mod Standing
 pub mod Scan
 pub mod Numbers
 pub mod Types

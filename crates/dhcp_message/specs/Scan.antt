@@ -7,9 +7,7 @@ use lib.ListN.{length, drop}
 use lib.Dec.{ltb, eqb}
 use Rattle.refusal.specs.declared.Refusal.the-variants.{NoAuthentication, RepeatedAuthentication, RelayInformation}
 use Rattle.dhcp_message.specs.Layout.{headerSize, typeCode, relayCode, authCode, padSize, optionHead}
-use Rattle.dhcp_message.specs.Options.{Token, pad, opt, Parsed, broken, parsed, Lead, nothing, end, token, lead, decode}
-use Rattle.dhcp_message.specs.declared.scan.Here.{Here}
-use Rattle.dhcp_message.specs.declared.scan.Here.the-variants.{Broken as HBroken, End as HEnd, Pad as HPad, Opt as HOpt}
+use Rattle.dhcp_message.specs.Options.{Token, pad, opt, Parsed, broken, parsed, decode}
 use Rattle.dhcp_message.specs.declared.scan.Tally.{Tally}
 use Rattle.dhcp_message.specs.declared.scan.Scan.{Scan}
 use Rattle.dhcp_message.specs.declared.scan.Scan.the-variants.{Broken as SBroken, Whole as SWhole}
@@ -19,21 +17,6 @@ use Rattle.dhcp_message.specs.declared.types.Typing.{Typing}
 use Rattle.dhcp_message.specs.declared.types.Typing.the-variants.{NotYet, As, Spoiled}
 use Rattle.dhcp_message.specs.declared.MessageType.{MessageType}
 use Rattle.dhcp_message.specs.declared.MessageType.the-variants.{Stated, Unstated}
-
-abbrev pub leadOf : List ℕ → Lead
-leadOf [] = nothing
-leadOf (c ∷ xs) = lead c xs
-
--- an option is told by its code and the bytes that it takes
-abbrev pub hereOf : Lead → Here
-hereOf nothing = HBroken
-hereOf end = HEnd
-hereOf (token pad k) = HPad
-hereOf (token (opt c body) k) = HOpt c (optionHead + length body)
-
--- what stands at an offset
-unfoldable pub hereAt : List ℕ → ℕ → Here
-hereAt m at = hereOf (leadOf (drop at m))
 
 abbrev pub seen90 : Tally → ℕ → Tally
 seen90 f at = record { n90 = f .n90 + 1; at90 = at; n82 = f .n82; at82 = f .at82; size82 = f .size82 }

@@ -6,22 +6,22 @@ pub(crate) const MESSAGE_LEAST: usize = 241;
 pub const MESSAGE_MOST: usize = 1472;
 
 // The fixed part (RFC 2131, section 2): hops, giaddr and the magic cookie by offset; the options start behind it.
-pub(crate) const HOPS_AT: usize = 3;
+pub const HOPS_AT: usize = 3;
 
-pub(crate) const HOPS_SIZE: usize = 1;
+pub const HOPS_SIZE: usize = 1;
 
-pub(crate) const GIADDR_AT: usize = 24;
+pub const GIADDR_AT: usize = 24;
 
-pub(crate) const GIADDR_SIZE: usize = 4;
+pub const GIADDR_SIZE: usize = 4;
 
 pub(crate) const COOKIE_AT: usize = 236;
 
 pub(crate) const COOKIE: [u8; 4] = [99, 130, 83, 99];
 
-pub(crate) const HEADER_SIZE: usize = 240;
+pub const HEADER_SIZE: usize = 240;
 
 // Option codes (RFC 2132, sections 3 and 9.6; RFC 3046; RFC 3118), and what an option takes besides its body: code and length. A pad is its code alone.
-pub(crate) const PAD: u8 = 0;
+pub const PAD: u8 = 0;
 
 pub(crate) const TYPE: u8 = 53;
 
@@ -31,9 +31,9 @@ pub(crate) const AUTHENTICATION: u8 = 90;
 
 pub(crate) const END: u8 = 255;
 
-pub(crate) const PAD_SIZE: usize = 1;
+pub const PAD_SIZE: usize = 1;
 
-pub(crate) const OPTION_HEAD: usize = 2;
+pub const OPTION_HEAD: usize = 2;
 
 // An option 53 that states a type takes this many bytes.
 pub(crate) const TYPE_OPTION: usize = OPTION_HEAD + 1;

@@ -5,7 +5,9 @@ ghost use lib.ListN.{length, drop};
 ghost use Rattle.octets.specs.Bytes.{starts};
 ghost use Rattle.dhcp_message.specs.Layout.{cookieAt, headerSize, magicCookie};
 ghost use Rattle.dhcp_message.specs.Shape.{shapeOf};
-ghost use Rattle.dhcp_message.specs.Scan.{hereAt, seenOf, scanOf, shapeFound};
+ghost use Rattle.dhcp_message.specs.Standing.{hereAt};
+ghost use Rattle.dhcp_message.specs.Scan.{seenOf, scanOf, shapeFound};
+use crate::Here;
 use crate::Places;
 use crate::Shape;
 use crate::layout::AUTHENTICATION;
@@ -21,15 +23,6 @@ use crate::layout::PAD;
 use crate::layout::PAD_SIZE;
 use crate::layout::RELAY;
 use refusal::Refusal;
-
-// What stands at an offset of the options. An option is told by its code and the bytes that it takes.
-pub(crate) enum Here {
-    // Nothing whole.
-    Broken,
-    End,
-    Pad,
-    Opt { code: u8, size: usize },
-}
 
 // What a scan has found: how many options 90 and 82, where the last of each stands, and the bytes that 82 takes.
 pub(crate) struct Tally {
@@ -47,7 +40,7 @@ pub(crate) enum Scan {
 }
 
 // What stands at an offset of the options.
-pub(crate) fn here_at(message: &[u8], at: usize) -> Here
+pub fn here_at(message: &[u8], at: usize) -> Here
     ensures { λ r. ⌜ r ≡ hereAt (now (message .entry)) at ⌝ }
 {
     if message.len() <= at {

@@ -6,13 +6,13 @@ ghost use lib.ListN.{length, take, drop};
 ghost use Rattle.dhcp_message.specs.Layout.{optionHead};
 ghost use Rattle.dhcp_message.specs.Scan.{typedOf, typeFound};
 ghost use Rattle.dhcp_message.specs.Types.{messageTypeOf};
+use crate::Here;
 use crate::MessageType;
 use crate::layout::HEADER_SIZE;
 use crate::layout::OPTION_HEAD;
 use crate::layout::PAD_SIZE;
 use crate::layout::TYPE;
 use crate::layout::TYPE_OPTION;
-use crate::scan::Here;
 use crate::scan::here_at;
 
 // What a pass has found of option 53: none, one that states a type, or what states none whatever follows.

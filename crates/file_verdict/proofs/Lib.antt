@@ -1,5 +1,5 @@
 pub mod Reading
-mod Contents
+pub mod Contents
 pub mod Stages
 pub mod Cards
 pub mod Says

@@ -1,8 +1,7 @@
 -- From the two files to the line: docs/RULES.md, 'The program'. A file is its bytes, or none where it is missing or can't be read.
 -- `lineFor` is the whole decision. It goes in two parts, since the card is judged before the message file is looked at: by `loadedOf` and
 -- `bookLoaded` from the card, and by `messageLine` from the book and the message.
-use Prim.Native.Nat.{ℕ, _+_, _*_, _≤_, _<_}
-use mathlib.Core.Path.{_≡_}
+use Prim.Native.Nat.{ℕ, _+_, _*_, _<_}
 use mathlib.Core.Bool.{cond}
 use mathlib.Core.List.{List}
 use mathlib.Core.Option.{Option, none, some}
@@ -43,10 +42,10 @@ unfoldable pub readable : Option (List ℕ) → Option (List ℕ)
 readable none = none
 readable (some s) = cond (leb (length s) fileMost) (some s) none
 
--- what is left of a content, so that as many bytes at the room's front are those of a file that may be judged
-abbrev pub MayBeJudged : List ℕ → Content → Content → Type 0
-MayBeJudged room content NoContent = readable (fileIn room content) ≡ none
-MayBeJudged room content (Size n) = (n ≤ length room) × (readable (fileIn room content) ≡ some (take n room))
+-- a file by its number of bytes
+abbrev pub contentOf : Option (List ℕ) → Content
+contentOf none = NoContent
+contentOf (some s) = Size (length s)
 
 -- what the answer of one read means, where so many bytes of the room had been read before: negative, it failed; 0 is the end
 unfoldable pub afterRead : ℕ → ℕ → ℤ → Progress

@@ -1,12 +1,13 @@
 // From the bytes of `book.card` and `message.bin` to the line that the program `judge` writes: docs/RULES.md, 'The program'.
 // The card is judged first (`load_card`), and only where it gives rows is there a message to judge (`message_line`). The card, and the line for what a
-// check said (`line_of`), are those of the program `judge_capture` too.
+// check said (`line_of`), are those of the program `judge_capture` too; which files may be judged (`within_limit`) is the same for the
+// messages of `compare_messages`.
 // Not here: opening and reading the files (program_files), and the line's bytes (verdict_line).
 //
 // The book is lent as ids, key lengths, key store, marks, received counters, sent counters and row count, in this order.
 ghost use mathlib.Core.Path.{_≡_};
 ghost use Rattle.key_book.specs.Book.{bookOf};
-ghost use Rattle.file_verdict.specs.Files.{fileIn, MayBeJudged, loadedOf, rowsLoaded, bookLoaded, verdictLine, messageLine};
+ghost use Rattle.file_verdict.specs.Files.{fileIn, readable, contentOf, loadedOf, rowsLoaded, bookLoaded, verdictLine, messageLine};
 ghost use Rattle.file_verdict.specs.Files.{marksLeft, receivedLeft, afterRead};
 use book_card::ReadAnswer;
 use delayed_auth::Verdict;
@@ -59,9 +60,9 @@ pub fn after_read(got: isize, have: usize, room: usize) -> Progress
     Progress::Ended(Content::Unreadable)
 }
 
-// The same content where the room can hold it and it is not above the limit: so many bytes at the room's front may be judged.
-fn within_limit(content: Content, room: &[u8]) -> Content
-    ensures { λ r. ⌜ MayBeJudged (now (room .entry)) content r ⌝ }
+// The same content where the room can hold it and it is not above the limit, else `Unreadable`: so many bytes at the front of the room may be judged.
+pub fn within_limit(content: Content, room: &[u8]) -> Content
+    ensures { λ r. ⌜ r ≡ contentOf (readable (fileIn (now (room .entry)) content)) ⌝ }
 {
     let Content::Size(size) = content else {
         return Content::Unreadable;

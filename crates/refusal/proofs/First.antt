@@ -1,17 +1,29 @@
 -- How a refusal is shown to be the first that applies in an order: an answer is right if it names what applies with nothing that stands before it
 -- applying, or nothing applies at all. Each refusal has one place in the order.
-use Prim.Native.Nat.{ℕ, _≤_}
+use Prim.Native.Nat.{ℕ, zero, suc, _+_, _≤_}
+use native.Mathlib.Nat.{add-zero}
 use native.Mathlib.Decide.{decLt}
 use native.Mathlib.Omega.{arith}
 use mathlib.Core.Path.{_≡_, refl, sym, ap, _∙_}
-use mathlib.Core.List.{List}
-use mathlib.Core.Option.{Option, none, some, Option·some-injective}
+use mathlib.Core.List.{List, [], _∷_}
+use mathlib.Core.Option.{Option, none, some, Option·some-injective, Option·none-ne-some}
 use lib.ListN.{getElem?}
 use Rattle.refusal.specs.declared.Refusal.{Refusal}
 use Rattle.refusal.specs.Number.{numberOf, done}
 use Rattle.refusal.specs.First.{NothingBefore, First}
 use Rattle.refusal.proofs.Names.{numbers-tell}
 use Rattle.refusal.proofs.Lowest.{numberBy}
+
+-- the places of an order: each member of a list stands at its place, counted from n
+module _ {F : Type 0} (placeOf : F → ℕ) where
+  abbrev pub InPlace : ℕ → List F → Type 0
+  InPlace n [] = Unit {0}
+  InPlace n (q ∷ l) = (n ≡ placeOf q) × InPlace (suc n) l
+
+  pub in-place : (n : ℕ) (l : List F) → InPlace n l → (i : ℕ) (f : F) → getElem? l i ≡ some f → n + i ≡ placeOf f
+  in-place n [] h i f e = absurd (Option·none-ne-some f e)
+  in-place n (q ∷ l) h zero f e = add-zero n ∙ h .0 ∙ ap placeOf (Option·some-injective q f e)
+  in-place n (q ∷ l) h (suc i) f e = let z = in-place (suc n) l (h .1) i f e in omega arith
 
 module _
     (order : List Refusal) (A : Refusal → Type 0) (placeOf : Refusal → ℕ)

@@ -14,6 +14,8 @@ use Rattle.delayed_auth.specs.declared.Sealing.{Sealing}
 use Rattle.delayed_auth.specs.declared.Sealing.the-variants.{Sealed, Unsealed}
 use Rattle.forcerenew.specs.declared.Judged.{Judged}
 use Rattle.forcerenew.specs.declared.Judged.the-variants.{Accepted as Heeded, Refused as Unheeded}
+use Rattle.comparison.specs.declared.Compared.{Compared}
+use Rattle.comparison.specs.declared.Compared.the-variants.{Refused as Uncompared, Size as LinesSize}
 use Rattle.book_card.specs.declared.ReadAnswer.{ReadAnswer}
 use Rattle.book_card.specs.declared.ReadAnswer.the-variants.{Refused as ReadRefused, Rows}
 use Rattle.book_card.specs.declared.WriteAnswer.{WriteAnswer}
@@ -70,3 +72,8 @@ kindPlace was (Unheeded r) = was
 abbrev pub judgedPlace : (was : ℕ) → Judged → ℕ
 judgedPlace was (Heeded kind counter) = counter
 judgedPlace was (Unheeded r) = was
+
+-- after a comparison: how many bytes the lines have
+abbrev pub comparedPlace : (was : ℕ) → Compared → ℕ
+comparedPlace was (Uncompared r) = was
+comparedPlace was (LinesSize n) = n

@@ -20,10 +20,11 @@ ghost use Rattle.book_card.specs.declared.CardForm.the-variants.{Old, New};
 ghost use Rattle.book_card.specs.Reading.{readOf, readBook, rowsGiven, readNumber};
 ghost use Rattle.book_card.specs.Writing.{writeOf, roomAfter, writeNumber};
 ghost use Rattle.book_card.specs.Moving.{moveOf, roomMoved};
+ghost use Rattle.comparison.specs.Entry.{compareOf, roomCompared, comparedNumber};
 ghost use Rattle.card_pieces.specs.Pieces.{fresh};
 ghost use Rattle.card_pieces.specs.Numbers.{formNumber, phaseNumber};
 ghost use Rattle.rimemagpie.specs.Places.{rowPlace, counterPlace, offsetPlace, sizePlace, sealedPlace, rowsPlace, cardPlace};
-ghost use Rattle.rimemagpie.specs.Places.{soughtPlace, looksPlace, kindPlace, judgedPlace};
+ghost use Rattle.rimemagpie.specs.Places.{soughtPlace, looksPlace, kindPlace, judgedPlace, comparedPlace};
 ghost use Rattle.rimemagpie.specs.States.{stateOf, fedNumber, fedSpare, tailPlace, keptPlace, readPlace, lowPlace, formPlace, phasePlace};
 ghost use Rattle.rimemagpie.specs.States.{endedAnswer, endedBook};
 use book_card::CardForm;
@@ -31,6 +32,7 @@ use book_card::ReadAnswer;
 use book_card::WriteAnswer;
 use card_pieces::Reader;
 use card_pieces::TAIL_MOST;
+use comparison::Compared;
 use delayed_auth::Keyed;
 use delayed_auth::Sealing;
 use delayed_auth::Verdict;
@@ -572,5 +574,29 @@ pub extern "C" fn rimemagpie_card_finish(
             0
         }
         ReadAnswer::Refused(refusal) => refusal::number(refusal),
+    }
+}
+
+// Compares two messages, and writes what differs, line by line, to the front of a lent room. Later bytes of the room stay as they were.
+#[no_mangle]
+pub extern "C" fn rimemagpie_compare(
+    first: &[u8],
+    second: &[u8],
+    room: &mut [u8],
+    size: &mut u64,
+) -> u8
+    ensures number { λ r. ⌜ r ≡ comparedNumber (compareOf (now (first .entry)) (now (second .entry)) (length (now (room .entry)))) ⌝ }
+    ensures room { λ _. ⌜ now (room .exit) ≡ roomCompared (now (first .entry)) (now (second .entry)) (now (room .entry)) ⌝ }
+    ensures size { λ _. ⌜
+        now (size .exit) ≡ comparedPlace (now (size .entry)) (compareOf (now (first .entry)) (now (second .entry)) (length (now (room .entry))))
+        ⌝ }
+{
+    let answer = comparison::compare(first, second, room);
+    match answer {
+        Compared::Size(lines) => {
+            *size = lines as u64;
+            0
+        }
+        Compared::Refused(refusal) => refusal::number(refusal),
     }
 }

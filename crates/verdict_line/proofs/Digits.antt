@@ -62,9 +62,12 @@ digits-most (suc k) n = on (ltb n 10) (digits-most k (n / 10))
     on true h = omega arith
     on false h = simp length-append (omega arith)
 
+pub length-below : (k n : ℕ) → n < 10 ^ suc k → length (decimal n) ≤ suc k
+length-below k n h = omega (arith, ap length (digits-are k n h), digits-most (suc k) n)
+
 -- a number of 64 bits has at most twenty digits, and the largest has twenty
 pub length-word : (n : ℕ) → n < 2 ^ 64 → length (decimal n) ≤ 20
-length-word n h = omega (arith, ap length (digits-are 19 n (omega arith)), digits-most 20 n)
+length-word n h = length-below 19 n (omega arith)
 
 pub length-largest : length (decimal (2 ^ 64 - 1)) ≡ 20
 unfolding digitsTo

@@ -1,5 +1,5 @@
-mod Digits
-mod Places
+pub mod Digits
+pub mod Places
 pub mod Lines
 pub mod Says
 pub mod Computed

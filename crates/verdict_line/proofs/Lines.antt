@@ -13,7 +13,7 @@ use lib.Seq.{length-take-le}
 use Rattle.verdict_line.specs.Decimal.{decimal}
 use Rattle.verdict_line.specs.Line.{lineMost, numberedMost, wordMost, acceptedRow, counterWord, space, newline}
 use Rattle.verdict_line.specs.Line.{acceptedLine, wordedLine, lineOf, numberedLine}
-use Rattle.verdict_line.specs.Line.{PutAt, Made, sizeIn, outAfter}
+use Rattle.verdict_line.specs.Line.{PutAt, Made, sizeIn, outAfter, placeWith, outWith}
 use Rattle.verdict_line.specs.declared.Line.{Line}
 use Rattle.verdict_line.proofs.Digits.{length-word}
 use Rattle.octets.specs.Bytes.{written}
@@ -127,3 +127,12 @@ module _ {old s made : List ℕ} {size : ℕ} (m : PutAt old 0 s made size) (h :
   made-put most out {r = r} f p =
       let z : r ≡ sizeIn s (length out) = p .0 ∙ ap (λ (l : List ℕ). sizeIn l (length out)) made-take in
       (z, (p .1 ∙ ap (λ (l : List ℕ). outAfter l out) made-take, λ w. z ∙ size-whole s (length out) (omega arith)))
+
+-- bytes added at the front are written there
+pub added-front : (out s : List ℕ) {new : List ℕ} {r : ℕ} → r ≡ placeWith 0 s (length out) → new ≡ outWith 0 s out → MadePut s out new r
+unfolding placeWith outWith sizeIn outAfter
+added-front out s e f = (rw (zero-add (length s)) at e, rw (zero-add (length s)) at f)
+
+-- the same by another name
+pub put-same : (out : List ℕ) {s t new : List ℕ} {r : ℕ} → t ≡ s → MadePut t out new r → MadePut s out new r
+put-same out e p = rw e at p

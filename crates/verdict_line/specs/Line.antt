@@ -1,4 +1,4 @@
--- The lines that the programs write, as their bytes: docs/RULES.md, 'The program', 'A known id' and 'A recording'.
+-- The lines that the programs write, as their bytes: docs/RULES.md, 'The program', 'A known id', 'A recording' and 'Two files side by side'.
 use mathlib.Core.Path.{_≡_}
 use mathlib.Core.Bool.{cond}
 use mathlib.Core.List.{List, [], _∷_, _++_}
@@ -86,7 +86,15 @@ pub record PutAt (old : List ℕ) (at : ℕ) (s new : List ℕ) (r : ℕ) : Type
   pub place : r ≡ at + length s
   pub content : new ≡ written at s old
 
--- they stand so, and are no more than a line's
+-- what is returned for bytes at a place of so much room: the place after them, or the same place where they don't fit behind it
+unfoldable pub placeWith : (at : ℕ) → List ℕ → (room : ℕ) → ℕ
+placeWith at s room = cond (leb (at + length s) room) (at + length s) at
+
+-- the room afterwards: the bytes from that place on and the rest as it was, or nothing changed where they don't fit
+unfoldable pub outWith : (at : ℕ) → List ℕ → List ℕ → List ℕ
+outWith at s out = cond (leb (at + length s) (length out)) (written at s out) out
+
+-- bytes put so, no more than a line's
 pub record Made (old : List ℕ) (at : ℕ) (s new : List ℕ) (r : ℕ) : Type 0 where
   pub put : PutAt old at s new r
   pub most : length s ≤ lineMost

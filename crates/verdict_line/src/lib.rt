@@ -1,4 +1,4 @@
-// The lines that the programs write, newline included: docs/RULES.md, 'The program', 'A known id' and 'A recording'.
+// The lines that the programs write, newline included: docs/RULES.md, 'The program', 'A known id', 'A recording' and 'Two files side by side'.
 //   accepted row R counter C
 //   refused N
 //   unreadable
@@ -7,13 +7,14 @@
 //   known row R
 //   unknown
 // Those of a recording's records have the record's number and a space in front. Numbers are decimal, without leading zeros.
+// The writers of bytes and digits (`add_bytes`, `add_decimal`) are also for other crates' lines: comparison makes its own with them.
 // Not here: reading the files and judging what they hold.
 ghost use mathlib.Core.Path.{_≡_};
 ghost use Prim.Native.Nat.{_+_, _≤_};
 ghost use lib.ListN.{length};
 ghost use Rattle.verdict_line.specs.Decimal.{decimal};
 ghost use Rattle.verdict_line.specs.Line.{lineMost, numberedMost, wordMost, acceptedLine, wordedLine, lineOf, numberedLine};
-ghost use Rattle.verdict_line.specs.Line.{PutAt, Made, sizeIn, outAfter};
+ghost use Rattle.verdict_line.specs.Line.{PutAt, Made, placeWith, outWith, sizeIn, outAfter};
 use refusal::Refusal;
 
 // The bytes of the longest line, with a row and a counter of twenty digits each.
@@ -21,6 +22,9 @@ pub const LINE_MOST: usize = 63;
 
 // The same with a number of twenty digits and a space in front.
 pub const NUMBERED_MOST: usize = 84;
+
+// The most digits that a number of 64 bits has.
+const DIGITS_MOST: usize = 20;
 
 // The character 0; the other digits follow it.
 pub const DIGIT_ZERO: u8 = 48;
@@ -64,6 +68,31 @@ fn put_decimal(out: &mut [u8], at: usize, x: u64) -> usize
     let last = put_decimal(out, at, x / 10);
     out[last] = DIGIT_ZERO + (x % 10) as u8;
     last + 1
+}
+
+// Writes bytes at a place of the lent room and returns the place after them. Where they don't fit behind that place it writes nothing and returns the place as
+// it was.
+pub fn add_bytes(out: &mut [u8], at: usize, bytes: &[u8]) -> usize
+    ensures place { λ r. ⌜ r ≡ placeWith at (now (bytes .entry)) (length (now (out .entry))) ⌝ }
+    ensures content { λ _. ⌜ now (out .exit) ≡ outWith at (now (bytes .entry)) (now (out .entry)) ⌝ }
+{
+    if out.len() < at {
+        return at;
+    }
+    if out.len() - at < bytes.len() {
+        return at;
+    }
+    put(out, at, bytes)
+}
+
+// The same for a number's digits.
+pub fn add_decimal(out: &mut [u8], at: usize, x: u64) -> usize
+    ensures place { λ r. ⌜ r ≡ placeWith at (decimal x) (length (now (out .entry))) ⌝ }
+    ensures content { λ _. ⌜ now (out .exit) ≡ outWith at (decimal x) (now (out .entry)) ⌝ }
+{
+    let mut digits = [0u8; DIGITS_MOST];
+    let size = put_decimal(&mut digits, 0, x);
+    add_bytes(out, at, &digits[..size])
 }
 
 // Puts the line of an accepted message at a place behind which there is room for any line, and returns the place after it.

@@ -1,34 +1,12 @@
 /*
- * Calls every function of rimemagpie.h as the header declares it. It is C and C++ alike, and each buffer is a block of
- * its own of just the right size, so that valgrind sees any byte read or written beside it.
+ * Calls every function of rimemagpie.h as the header declares it, but rimemagpie_compare, which comparison.c calls. It is
+ * C and C++ alike, and each buffer is a block of its own of just the right size, so that valgrind sees any byte read or
+ * written beside it.
  *
  * It prints the line of the first answer that is not as expected and exits with 1; else it prints nothing.
  */
 #include "rimemagpie.h"
-
-#include <stdio.h>
-#include <stdlib.h>
-#include <string.h>
-
-#define EXPECT(what)                                        \
-    do {                                                    \
-        if (!(what)) {                                      \
-            printf("line %d: %s\n", __LINE__, #what);       \
-            exit(1);                                        \
-        }                                                   \
-    } while (0)
-
-/* A copy of some bytes in a block of that size. */
-static uint8_t *block_of(const uint8_t *bytes, size_t size)
-{
-    uint8_t *block = (uint8_t *)malloc(size);
-
-    EXPECT(block != NULL || size == 0);
-    if (size > 0)
-        memcpy(block, bytes, size);
-    /* No pointer may be null, not even to an empty buffer. */
-    return block != NULL ? block : (uint8_t *)malloc(1);
-}
+#include "blocks.h"
 
 /* A book with room for two rows. */
 struct book {

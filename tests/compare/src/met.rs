@@ -105,14 +105,18 @@ pub fn by_move(card: &[u8], wanted: Form, room: usize, answer: u8) -> String {
     let Some(rows) = rows_of_card(card) else {
         return by_reading(card, answer);
     };
-    let size = card_of_rows(wanted, &rows).len();
-    let fit = match room {
+    let fit = fit(room, card_of_rows(wanted, &rows).len());
+    format!("{}, {fit}: {answer}", kind_of_card(card))
+}
+
+/// How a room is beside the size that is needed.
+pub fn fit(room: usize, size: usize) -> &'static str {
+    match room {
         _ if room + 1 == size => "a byte short",
         _ if room < size => "short",
         _ if room == size => "exact",
         _ => "larger",
-    };
-    format!("{}, {fit}: {answer}", kind_of_card(card))
+    }
 }
 
 /// What must come up among moves to either form.

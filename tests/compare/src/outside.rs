@@ -6,6 +6,7 @@ use std::fs;
 use std::path::{Path, PathBuf};
 use std::process::{Child, Command, ExitStatus, Output, Stdio};
 use std::sync::atomic::{AtomicUsize, Ordering};
+use std::sync::{Mutex, MutexGuard, PoisonError};
 use std::thread;
 use std::time::{Duration, Instant};
 
@@ -38,6 +39,15 @@ pub fn judge_capture() -> PathBuf {
 /// The program known.
 pub fn known() -> PathBuf {
     built("RIMEMAGPIE_KNOWN", "target/bin/known", None)
+}
+
+/// The program compare_messages.
+pub fn compare_messages() -> PathBuf {
+    built(
+        "RIMEMAGPIE_COMPARE_MESSAGES",
+        "target/bin/compare_messages",
+        None,
+    )
 }
 
 /// Something that must have been built first, where the variable says or else at its usual place.
@@ -92,9 +102,7 @@ impl Drop for Folder {
 
 /// Runs a command to its end; a command that can't be started is named.
 pub fn run(command: &mut Command) -> Output {
-    command
-        .output()
-        .unwrap_or_else(|error| panic!("{command:?} can't be started: {error}"))
+    output(captured(command))
 }
 
 /// Runs a command that must succeed, and gives what it wrote.
@@ -106,21 +114,48 @@ pub fn run_well(command: &mut Command) -> String {
 /// Runs a command that must succeed within a time, at the end of which it is stopped, and gives
 /// what it wrote: a few lines, which a pipe has room for.
 pub fn run_within(limit: Duration, command: &mut Command) -> String {
-    let mut child = started(
-        command
-            .stdin(Stdio::null())
-            .stdout(Stdio::piped())
-            .stderr(Stdio::piped()),
-    );
+    let mut child = captured(command);
     ended_within(limit, command, &mut child);
-    let output = child
-        .wait_with_output()
-        .expect("a child's pipes can be read");
-    written(command, output)
+    written(command, output(child))
+}
+
+/// Starts a command whose output is kept.
+fn captured(command: &mut Command) -> Child {
+    let command = command.stdin(Stdio::null());
+    started(command.stdout(Stdio::piped()).stderr(Stdio::piped()))
+}
+
+/// What a started command writes, up to its end.
+fn output(child: Child) -> Output {
+    let output = child.wait_with_output();
+    output.expect("a child's pipes can be read")
+}
+
+/// Held while a process is started. Until it is, it has a copy of each pipe's end that any thread
+/// has open.
+static STARTING: Mutex<()> = Mutex::new(());
+
+/// Waits until no other process is being started. A test that failed meanwhile doesn't matter.
+fn starting() -> MutexGuard<'static, ()> {
+    STARTING.lock().unwrap_or_else(PoisonError::into_inner)
 }
 
 /// Starts a command; one that can't be started is named.
 pub fn started(command: &mut Command) -> Child {
+    let _alone = starting();
+    spawned(command)
+}
+
+/// Starts a command whose output nobody reads: the reader is gone before another process could get
+/// a copy of its end.
+pub fn started_unread(command: &mut Command) -> Child {
+    let _alone = starting();
+    let mut child = spawned(command.stdout(Stdio::piped()));
+    drop(child.stdout.take());
+    child
+}
+
+fn spawned(command: &mut Command) -> Child {
     command
         .spawn()
         .unwrap_or_else(|error| panic!("{command:?} can't be started: {error}"))

@@ -2,18 +2,24 @@
 //! or do less than they were asked to, files that come in pieces, and that a program leaves all of
 //! them as they were.
 
-use crate::outside::{repository_file, run, run_well, Folder};
+use crate::outside::{ended_within, repository_file, run, run_well, started_unread, Folder};
 use std::fs::{self, File};
 use std::io::{ErrorKind, Write};
 use std::os::unix::fs::{symlink, OpenOptionsExt};
 use std::path::{Path, PathBuf};
-use std::process::Command;
+use std::process::{Command, ExitStatus};
 use std::sync::mpsc::{self, Receiver};
 use std::thread;
 use std::time::{Duration, SystemTime};
 
 /// The card's name, in every program.
 pub const CARD: &str = "book.card";
+
+/// Far more time than a program needs.
+pub const LIMIT: Duration = Duration::from_secs(30);
+
+/// The signal that tells a writer that its reader is gone.
+pub const SIGPIPE: i32 = 13;
 
 /// What stands at a name.
 #[derive(Clone, Copy)]
@@ -133,6 +139,28 @@ pub fn run_on_pieces(
         drop(File::options().read(true).custom_flags(O_NONBLOCK).open(&pipe));
         written
     })
+}
+
+/// The program, run by a shell that does this to it.
+pub fn by_shell(program: &Path, script: &str) -> Command {
+    let mut command = Command::new("sh");
+    command.args(["-c", script, "sh"]).arg(program);
+    command
+}
+
+/// A disk that takes no byte.
+pub fn full_disk() -> File {
+    let full = File::options().write(true).open("/dev/full");
+    full.expect("there is a full disk")
+}
+
+/// How a command ends whose reader is gone before it has anything to write: in place of a file of the
+/// folder stands a pipe, which gives its bytes behind that.
+pub fn ends_unread(mut command: Command, folder: &Folder, name: &str, bytes: &[u8]) -> ExitStatus {
+    let pipe = pipe(folder, name);
+    let mut child = started_unread(command.current_dir(folder.path()));
+    fed(pipe, [bytes.to_vec()].into_iter());
+    ended_within(LIMIT, &command, &mut child)
 }
 
 /// A disk that is slow, breaks or fills, and a reader that is slow. It takes a program that calls

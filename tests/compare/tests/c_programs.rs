@@ -54,16 +54,24 @@ fn example() {
     build_and_run(&["cc", "-std=c11"], source, EXAMPLE_PRINTS);
 }
 
-const EVERY_ENTRY: &str = "tests/compare/c/every_entry.c";
+/// The programs that call every entry between them.
+const EVERY_ENTRY: [&str; 2] = [
+    "tests/compare/c/every_entry.c",
+    "tests/compare/c/comparison.c",
+];
 
 #[test]
 fn every_entry_from_c() {
-    build_and_run(&["cc", "-std=c11"], EVERY_ENTRY, "");
+    for source in EVERY_ENTRY {
+        build_and_run(&["cc", "-std=c11"], source, "");
+    }
 }
 
 #[test]
 fn every_entry_from_cpp() {
-    build_and_run(&["g++", "-std=c++17", "-x", "c++"], EVERY_ENTRY, "");
+    for source in EVERY_ENTRY {
+        build_and_run(&["g++", "-std=c++17", "-x", "c++"], source, "");
+    }
 }
 
 /// The header by itself, as the least version of each language takes it, with every conversion looked

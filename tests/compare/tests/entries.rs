@@ -1,7 +1,7 @@
 //! Each entry of the C interface beside the second implementation: the number returned, the places
 //! of results, and all lent buffers whole after every call, refused ones too.
 
-use compare::generate::{books, cards, forcerenew as by_nonce, lists, messages, servers};
+use compare::generate::{books, cards, forcerenew as by_nonce, lists, messages, rooms, servers};
 use compare::harness::{compare, on_bytes, same, same_items, Difference, Tally};
 use compare::lent::{Lent, LentBook, LentServers};
 use compare::random::Random;
@@ -392,24 +392,14 @@ fn card_write_case(random: &mut Random, book: &Book) -> Result<u8, Difference> {
     Ok(number)
 }
 
+/// The sizes of the largest cards, in the old form and in the new one.
+const CARD_ROOMS: [usize; 2] = [22_534, 22_790];
+
 /// Room for the book's card.
 fn room_to_write(random: &mut Random, book: &Book) -> Vec<u8> {
     let keys = book.lengths.iter().take(book.rows);
     let size = 6 + keys.map(|length| 25 + usize::from(*length)).sum::<usize>();
-    room_about(random, size)
-}
-
-/// Room for a card of this size: a byte too little, just enough, more, or any. It holds anything
-/// before.
-fn room_about(random: &mut Random, size: usize) -> Vec<u8> {
-    let room = match random.below(8) {
-        0..=1 => size - 1,
-        2..=3 => size,
-        4..=5 => size + random.within(1..=100),
-        6 => random.pick(&[22_534, 22_790]),
-        _ => random.within(0..=size),
-    };
-    random.bytes(room)
+    rooms::about(random, size, &CARD_ROOMS)
 }
 
 /// A card just written reads back into the same rows, with zeros after each key.
@@ -477,7 +467,7 @@ fn room_to_move(random: &mut Random, wanted: Form, card: &[u8]) -> Vec<u8> {
     let rows = rows_of_card(card).unwrap_or_default();
     match random.below(8) {
         0 => random.bytes(card.len()),
-        _ => room_about(random, card_of_rows(wanted, &rows).len()),
+        _ => rooms::about(random, card_of_rows(wanted, &rows).len(), &CARD_ROOMS),
     }
 }
 

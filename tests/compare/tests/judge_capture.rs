@@ -9,7 +9,10 @@ use compare::generate::{books, captures, cards, frames, messages};
 use compare::harness::{cases, for_each_case, on_bytes, Difference, Tally};
 use compare::met;
 use compare::outside::{ended_within, judge_capture, repository_file, run_within, started, Folder};
-use compare::programs::{contents, fed, judged_by, judged_in_pieces, pipe, At, Disk, CARD};
+use compare::programs::{
+    by_shell, contents, fed, full_disk, judged_by, judged_in_pieces, pipe, At, Disk, CARD, LIMIT,
+    SIGPIPE,
+};
 use compare::random::Random;
 use compare::recordings::{
     agreed, both, both_by, endless_capture, folder_with, judged, kind, right_capture, right_frames,
@@ -20,18 +23,11 @@ use reference::card::{card_of_rows, Form, Row};
 use reference::examples::{
     frame_of_b, recordings_of_b, refused_by_b, CARDS_B, CARD_B_NOT_HEARD, CARD_EMPTY, NEW_CARD_B,
 };
-use std::fs::{self, File};
+use std::fs;
 use std::io::{ErrorKind, Read};
 use std::os::unix::process::ExitStatusExt;
 use std::process::{Command, ExitStatus, Stdio};
 use std::thread;
-use std::time::Duration;
-
-/// Far more time than the program needs.
-const LIMIT: Duration = Duration::from_secs(30);
-
-/// The signal that tells a writer that its reader is gone.
-const SIGPIPE: i32 = 13;
 
 /// Book B's recording, on either of its cards and on the one from before anything was accepted.
 /// Judged again it is accepted again, since nothing is written back; recorded twice it is a replay.
@@ -533,13 +529,6 @@ fn a_disk_that_fills() {
     }
 }
 
-/// The program, run by a shell that does this to it.
-fn by_shell(script: &str) -> Command {
-    let mut command = Command::new("sh");
-    command.args(["-c", script, "sh"]).arg(judge_capture());
-    command
-}
-
 /// Reads as many bytes as these, which they must be, and goes.
 fn reads_alone(front: &str, output: impl Read) {
     let mut text = String::new();
@@ -585,12 +574,12 @@ fn an_output_that_takes_nothing() {
     let (program, disk) = (judge_capture(), Disk::new());
     for read in [0, 1, 70_000] {
         ends_unread(Command::new(&program), Stdio::piped(), read, by_signal);
-        let ignoring = by_shell("trap '' PIPE; exec \"$1\"");
+        let ignoring = by_shell(&program, "trap '' PIPE; exec \"$1\"");
         ends_unread(ignoring, Stdio::piped(), read, well);
         ends_unread(disk.filling(&program, read), Stdio::piped(), read, well);
     }
-    let full = File::options().write(true).open("/dev/full");
-    let full = full.expect("there is a full disk");
-    ends_unread(Command::new(&program), full.into(), 0, well);
-    ends_unread(by_shell("exec \"$1\" >&-"), Stdio::null(), 0, well);
+    let full = full_disk().into();
+    ends_unread(Command::new(&program), full, 0, well);
+    let closed = by_shell(&program, "exec \"$1\" >&-");
+    ends_unread(closed, Stdio::null(), 0, well);
 }

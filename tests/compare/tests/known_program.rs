@@ -6,23 +6,19 @@
 use compare::generate::{books, cards};
 use compare::harness::{for_each_case, same, Tally};
 use compare::outside::{ended_within, known, repository_file, run_within, started, Folder};
-use compare::programs::{contents, fed, judged_by, pipe, put, run_on_pieces, At, Disk, CARD};
+use compare::programs::{
+    by_shell, contents, ends_unread, full_disk, judged_by, pipe, put, run_on_pieces, At, Disk,
+    CARD, LIMIT, SIGPIPE,
+};
 use compare::random::Random;
 use reference::card::{card_of_rows, rows_of_card, Form, Row};
 use reference::examples::{CARDS_B, CARD_B_NOT_HEARD, CARD_EMPTY, NEW_CARD_B};
 use reference::program::{id_of_argument, known_in_words};
 use std::ffi::OsStr;
-use std::fs::{self, File};
+use std::fs;
 use std::os::unix::ffi::OsStrExt;
 use std::os::unix::process::ExitStatusExt;
-use std::process::{Command, ExitStatus, Stdio};
-use std::time::Duration;
-
-/// Far more time than the program needs.
-const LIMIT: Duration = Duration::from_secs(30);
-
-/// The signal that tells a writer that its reader is gone.
-const SIGPIPE: i32 = 13;
+use std::process::{Command, ExitStatus};
 
 /// The command with these arguments.
 fn with(mut command: Command, arguments: &[&[u8]]) -> Command {
@@ -464,40 +460,21 @@ fn a_disk_that_fills() {
     }
 }
 
-/// The program, asked for the id 7 by a shell that does this to it.
-fn by_shell(script: &str) -> Command {
-    let mut command = Command::new("sh");
-    command.args(["-c", script, "sh"]).arg(known());
-    command
-}
-
-/// How a command ends whose reader is gone before it has anything to write: in place of the card
-/// stands a pipe, which is filled behind that.
-fn ends_unread(mut command: Command) -> ExitStatus {
-    let folder = Folder::new();
-    let card = pipe(&folder, CARD);
-    command.current_dir(folder.path()).stdout(Stdio::piped());
-    let mut child = started(&mut command);
-    drop(child.stdout.take());
-    fed(card, [NEW_CARD_B.to_vec()].into_iter());
-    ended_within(LIMIT, &command, &mut child)
-}
-
 /// Where its line can't be written the program ends: the reader is gone, with the signal that tells so
 /// and without it, the disk is full, or there is no standard output.
 #[test]
 fn an_output_that_takes_nothing() {
     let (well, by_signal) = (ExitStatus::default(), ExitStatus::from_raw(SIGPIPE));
     let asked = || with(Command::new(known()), &[b"7"]);
-    assert_eq!(ends_unread(asked()), by_signal);
-    assert_eq!(ends_unread(by_shell("trap '' PIPE; exec \"$1\" 7")), well);
+    let unread = |command| ends_unread(command, &Folder::new(), CARD, &NEW_CARD_B);
+    assert_eq!(unread(asked()), by_signal);
+    let ignoring = by_shell(&known(), "trap '' PIPE; exec \"$1\" 7");
+    assert_eq!(unread(ignoring), well);
     let folder = folder_of_b();
     let before = contents(&folder);
-    let full = File::options().write(true).open("/dev/full");
-    let full = full.expect("there is a full disk");
     let mut on_full = asked();
-    on_full.stdout(full);
-    for mut command in [on_full, by_shell("exec \"$1\" 7 >&-")] {
+    on_full.stdout(full_disk());
+    for mut command in [on_full, by_shell(&known(), "exec \"$1\" 7 >&-")] {
         let mut child = started(command.current_dir(folder.path()));
         assert_eq!(ended_within(LIMIT, &command, &mut child), well);
     }

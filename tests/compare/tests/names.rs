@@ -6,8 +6,8 @@ use compare::outside::repository_file;
 use rimemagpie::Refusal;
 use std::fs;
 
-/// The name and number of a refusal or of a mark.
-type Named = (String, u8);
+/// The name and number of a refusal, of a mark or of a size.
+type Named = (String, u16);
 
 fn text_of(path: &str) -> String {
     let path = repository_file(path);
@@ -57,7 +57,7 @@ fn refusals_in_rattle() -> Vec<Named> {
     assert!(named
         .iter()
         .map(|(_, number)| *number)
-        .eq(1..=named.len() as u8));
+        .eq(1..=named.len() as u16));
     named
 }
 
@@ -79,7 +79,7 @@ fn refusals_are_the_same_in_the_header() {
 
 #[test]
 fn refusals_are_the_same_in_the_wrapper() {
-    let named = |refusal: &Refusal| (format!("{refusal:?}"), refusal.number());
+    let named = |refusal: &Refusal| (format!("{refusal:?}"), refusal.number().into());
     let wrapped: Vec<Named> = Refusal::ALL.iter().map(named).collect();
     assert_eq!(wrapped, refusals_in_rattle());
 }
@@ -181,7 +181,18 @@ fn a_tail_has_the_same_size_in_c_and_rust() {
     assert_eq!(reference::card_pieces::TAIL_MOST, 88);
 }
 
-/// The header numbers nothing but answers, marks, and what is in a reader's state.
+/// The bound for the lines of a comparison.
+#[test]
+fn a_comparison_has_the_same_bound_in_c_rust_and_the_rules() {
+    let most = enum_in_header("rimemagpie_comparison");
+    assert_eq!(most, [("COMPARISON_MOST".to_string(), 18_573)]);
+    assert_eq!(rimemagpie::COMPARISON_MOST, 18_573);
+    assert_eq!(reference::comparison::COMPARISON_MOST, 18_573);
+    assert!(text_of("docs/RULES.md").contains("18,573 bytes of lines"));
+}
+
+/// The header numbers nothing but answers, marks, a comparison's bound, and what is in a reader's
+/// state.
 #[test]
 fn each_number_of_the_header_is_named_here() {
     let all = named_in(&text_of("include/rimemagpie.h"), IN_HEADER);
@@ -189,6 +200,7 @@ fn each_number_of_the_header_is_named_here() {
         "rimemagpie_number",
         "rimemagpie_mark",
         "rimemagpie_server_mark",
+        "rimemagpie_comparison",
         "rimemagpie_card_form",
         "rimemagpie_card_phase",
         "rimemagpie_card_tail",
@@ -229,7 +241,7 @@ fn parameters_are_the_same_in_rattle_c_and_rust() {
         ")",
         name_in_rust,
     );
-    assert_eq!(entries.len(), 14);
+    assert_eq!(entries.len(), 15);
     let in_order = |mut entries: Vec<Vec<String>>| {
         entries.sort();
         entries

@@ -1,9 +1,10 @@
-//! What the programs do with a card and say of a check (docs/RULES.md, 'The program'), and the line
-//! of `known` ('A known id').
+//! What the programs do with a card and say of a check (docs/RULES.md, 'The program'), the line of
+//! `known` ('A known id'), and what `compare_messages` writes ('Two files side by side').
 
 use crate::auth::Accepted;
 use crate::book::{Book, ROWS_MOST};
 use crate::card::card_read;
+use crate::comparison::{lines, text};
 use crate::refusal::Refusal;
 
 /// The book on a card, read into room for 256 rows.
@@ -51,9 +52,27 @@ pub fn id_of_argument(argument: &[u8]) -> Option<u32> {
     argument.iter().try_fold(0, more)
 }
 
+/// The most bytes of a message file.
+pub const MESSAGE_FILE_MOST: usize = 65_535;
+
+/// What `compare_messages` writes of its two files, each None where it is missing or can't be read:
+/// lines with their newlines. Both are read before either message is judged.
+pub fn compared_in_words(first: Option<&[u8]>, second: Option<&[u8]>) -> String {
+    let [first, second] =
+        [first, second].map(|file| file.filter(|bytes| bytes.len() <= MESSAGE_FILE_MOST));
+    let (Some(first), Some(second)) = (first, second) else {
+        return "unreadable\n".to_string();
+    };
+    match lines(first, second) {
+        Ok(lines) => text(&lines),
+        Err(refusal) => format!("refused {}\n", refusal.number()),
+    }
+}
+
 #[cfg(test)]
 mod tests {
     use super::*;
+    use crate::comparison_examples::recorded;
     use crate::examples::{CARDS_B, CARD_EMPTY};
 
     #[test]
@@ -89,5 +108,30 @@ mod tests {
         }
         assert_eq!(known_in_words(&[b"7"], Some(&CARD_EMPTY)), "unknown");
         assert_eq!(known_in_words(&[b"7"], None), "unreadable");
+    }
+
+    /// A file that can't be read comes before a message that is refused, whichever it is.
+    #[test]
+    fn lines_of_compare_messages() {
+        let (message, largest, above) = (recorded(), vec![0; 65_535], vec![0; 65_536]);
+        let of = |first, second| compared_in_words(Some(first), Some(second));
+        assert_eq!(of(&message, &message), "relay only\n");
+        let cut = &message[..270];
+        for (first, second, line) in [
+            (cut, &message[..], "refused 4\n"),
+            (&message, cut, "refused 4\n"),
+            (cut, &[], "refused 4\n"),
+            (&[], cut, "refused 2\n"),
+            (&largest, &message, "refused 2\n"),
+            (cut, &largest, "refused 4\n"),
+            (cut, &above, "unreadable\n"),
+            (&above, &message, "unreadable\n"),
+        ] {
+            assert_eq!(of(first, second), line);
+        }
+        for file in [None, Some(&message[..]), Some(cut)] {
+            assert_eq!(compared_in_words(None, file), "unreadable\n");
+            assert_eq!(compared_in_words(file, None), "unreadable\n");
+        }
     }
 }

@@ -1,7 +1,7 @@
 //! The refusals, each with the number it gives back (docs/RULES.md, 'Numbers').
 
-/// Why an entry refuses. The lowest number that applies is the one given; `forcerenew` goes by an
-/// order of its own.
+/// Why an entry refuses. The lowest number that applies is the one given; `forcerenew` and `compare`
+/// go by orders of their own.
 #[derive(Clone, Copy, Debug, PartialEq, Eq)]
 #[repr(u8)]
 pub enum Refusal {
@@ -48,6 +48,8 @@ pub enum Refusal {
     WrongType = 20,
     /// A FORCERENEW came, and the server row has no nonce yet.
     NoNonce = 21,
+    /// The lines of a comparison are longer than the room.
+    NoRoomForReport = 22,
 }
 
 impl Refusal {

@@ -48,6 +48,34 @@ pub fn relayed(message: &[u8], change: &RelayChange) -> Option<Vec<u8>> {
     (result.len() <= MESSAGE_MOST).then_some(result)
 }
 
+/// Whether a message comes of another by permitted relay changes, any number of them: by one that
+/// takes option 82 out, where there is one, and one that adds it as the message has it.
+pub fn comes_of(first: &[u8], second: &[u8]) -> bool {
+    let (Ok(before), Ok(after)) = (shape(first), shape(second)) else {
+        return false;
+    };
+    let giaddr = &second[GIADDR];
+    let change = |option_82| RelayChange {
+        hops: second[HOPS_AT],
+        giaddr: [giaddr[0], giaddr[1], giaddr[2], giaddr[3]],
+        option_82,
+    };
+    let taking_out = match before.relay_agent {
+        Some(_) => Option82::TakeOut,
+        None => Option82::Leave,
+    };
+    let adding = match after.relay_agent {
+        Some(there) => Option82::Add {
+            at: there.at,
+            body: second[there.body()].to_vec(),
+        },
+        None => Option82::Leave,
+    };
+    let bare = relayed(first, &change(taking_out));
+    let came = bare.and_then(|bare| relayed(&bare, &change(adding)));
+    came.as_deref() == Some(second)
+}
+
 /// Code, length and body; None where the body doesn't fit a length byte.
 fn option_82(body: &[u8]) -> Option<Vec<u8>> {
     let length = u8::try_from(body.len()).ok()?;

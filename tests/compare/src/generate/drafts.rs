@@ -30,6 +30,7 @@ pub fn random_bytes(random: &mut Random) -> Vec<u8> {
 }
 
 /// A message in parts.
+#[derive(Clone)]
 pub struct Draft {
     pub header: Vec<u8>,
     pub parts: Vec<Part>,
@@ -44,8 +45,16 @@ pub enum Part {
 }
 
 impl Part {
+    /// An option's code.
+    pub fn code(&self) -> Option<u8> {
+        match self {
+            Part::Pad => None,
+            Part::Option { code, .. } => Some(*code),
+        }
+    }
+
     pub fn has_code(&self, wanted: u8) -> bool {
-        matches!(self, Part::Option { code, .. } if *code == wanted)
+        self.code() == Some(wanted)
     }
 
     pub fn write(&self, bytes: &mut Vec<u8>) {
@@ -170,7 +179,7 @@ fn pad_or_other(random: &mut Random) -> Part {
 const LOOKED_AT: [u8; 3] = [MESSAGE_TYPE, RELAY_AGENT, AUTHENTICATION];
 
 /// An option of another code. Its body often holds the codes that reading must not find there.
-fn other_option(random: &mut Random, most: usize) -> Part {
+pub fn other_option(random: &mut Random, most: usize) -> Part {
     let code = loop {
         let code = random.within(1..=254) as u8;
         if !LOOKED_AT.contains(&code) {
@@ -205,7 +214,8 @@ pub fn message_type(body: &[u8]) -> Part {
     }
 }
 
-fn relay_agent(random: &mut Random) -> Part {
+/// Option 82 with any body.
+pub fn relay_agent(random: &mut Random) -> Part {
     let length = match random.below(8) {
         0 => 0,
         1 => 255,
