@@ -1,0 +1,158 @@
+// MD5 (RFC 1321) over bytes that come in pieces, with a limit on their total (docs/RULES.md, 'Digests'); and its parts, for HMAC, which begins two
+// messages with a block that the key makes.
+// Not here: the work on one block (md5_block), and a digest that the caller lends.
+#![tactic(auto)]
+
+mod blocks;
+mod pieces;
+
+ghost use Rattle.std.specs.Prelude.{◌≡◌};
+ghost use Rattle.refusal.specs.Number.{number_of};
+ghost use Rattle.refusal.specs.declared.Refusal.TheVariants.{TooLong};
+ghost use Rattle.md5_block.specs.Block.{compress};
+ghost use Rattle.md5_digest.specs.Block.{load};
+ghost use Rattle.md5_digest.specs.Message.{start};
+ghost use Rattle.md5_digest.specs.Entries.{no_digest, fresh, feed_of, finish_of, md5_of, after_rest};
+
+use crate::blocks::{all_blocks, ended, words_of};
+use crate::pieces::absorbed;
+use md5_block::{Words, block};
+pub use pieces::bytes_of;
+use refusal::Refusal;
+
+// The most bytes that one digest takes.
+pub const DIGEST_MOST: usize = 65535;
+
+// The bytes of a block, and of a digest.
+pub const BLOCK_SIZE: usize = 64;
+
+pub const DIGEST_SIZE: usize = 16;
+
+// A digest in progress. Of the tail the first total % BLOCK_SIZE bytes count; the rest are 0 after each piece taken.
+#[derive(Clone, Copy)]
+pub struct Digest {
+    pub words: Words,
+    pub tail: [u8; BLOCK_SIZE],
+    pub total: usize,
+}
+
+// What feeding gives: number 0 and the next state, or the refusal's number and the state as it was given.
+#[derive(Clone, Copy)]
+pub struct Fed {
+    pub number: u8,
+    pub state: Digest,
+}
+
+// What finishing gives: number 0 and the digest, or the refusal's number and 16 zero bytes.
+#[derive(Clone, Copy)]
+pub struct Finished {
+    pub number: u8,
+    pub digest: [u8; DIGEST_SIZE],
+}
+
+// RFC 1321, section 3.3: the words before the first block.
+fn start_words() -> Words
+    ensures { result ≡ start }
+{
+    Words {
+        a: 0x67452301,
+        b: 0xefcdab89,
+        c: 0x98badcfe,
+        d: 0x10325476,
+    }
+}
+
+// What finishing gives past the limit.
+fn refused() -> Finished
+    ensures { result ≡ record { number = number_of TooLong; digest = no_digest } }
+{
+    Finished {
+        number: refusal::number(Refusal::TooLong),
+        digest: [0u8; DIGEST_SIZE],
+    }
+}
+
+impl Digest {
+    // A fresh state.
+    pub fn begin() -> Digest
+        ensures { result ≡ fresh }
+    {
+        Digest {
+            words: start_words(),
+            tail: [0u8; BLOCK_SIZE],
+            total: 0,
+        }
+    }
+
+    // The state with a piece more, which may be empty; refused where the total would pass its limit.
+    pub fn feed(self, piece: &[u8]) -> Fed
+        ensures { result ≡ feed_of self piece.now }
+    {
+        let total = self.total;
+        if DIGEST_MOST < total {
+            return Fed {
+                number: refusal::number(Refusal::TooLong),
+                state: self,
+            };
+        }
+        if DIGEST_MOST - total < piece.len() {
+            return Fed {
+                number: refusal::number(Refusal::TooLong),
+                state: self,
+            };
+        }
+        let next = absorbed(self, piece);
+        Fed {
+            number: 0,
+            state: next,
+        }
+    }
+
+    // The digest of what the state has taken; refused where its total is past the limit.
+    pub fn finish(self) -> Finished
+        ensures { result ≡ finish_of self }
+    {
+        let total = self.total;
+        if DIGEST_MOST < total {
+            return refused();
+        }
+        let tail = self.tail;
+        let used = total % BLOCK_SIZE;
+        let last = ended(self.words, &tail[..used], total);
+        Finished {
+            number: 0,
+            digest: bytes_of(last),
+        }
+    }
+}
+
+// The words after a message's first block.
+pub fn words_after_first(first: [u8; BLOCK_SIZE]) -> Words
+    ensures { result ≡ compress start (load first) }
+{
+    block(start_words(), words_of(&first, 0))
+}
+
+// The words after the rest of a message whose first block led to w, and after its padding. Past the limit, w as it is given.
+pub fn words_after_rest(w: Words, rest: &[u8]) -> Words
+    ensures { result ≡ after_rest w rest.now }
+{
+    if DIGEST_MOST - BLOCK_SIZE < rest.len() {
+        return w;
+    }
+    all_blocks(w, rest, BLOCK_SIZE + rest.len())
+}
+
+// The digest of a whole message; refused where it is longer than the limit.
+pub fn md5(message: &[u8]) -> Finished
+    ensures { result ≡ md5_of message.now }
+{
+    if DIGEST_MOST < message.len() {
+        return refused();
+    }
+    let last = all_blocks(start_words(), message, message.len());
+    Finished {
+        number: 0,
+        digest: bytes_of(last),
+    }
+}
