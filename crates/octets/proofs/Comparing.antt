@@ -32,7 +32,7 @@ pub same_end : (s : Bool) (xs ys : List ℕ) (i : ℕ) → length xs ≤ i → l
 unfolding same_bytes
 same_end s xs ys i h k = rw (drop_of_length-le xs h, drop_of_length-le ys k) (sym (and_true s))
 
--- ---- `sameBytes` is true exactly where the lists are equal
+-- ---- `same_bytes` is true exactly where the lists are equal
 
 pub same_equal : (xs ys : List ℕ) → same_bytes xs ys ≡ true → xs ≡ ys
 unfolding same_bytes

@@ -1,12 +1,12 @@
 -- Laws of bytes written over a list. Counts are variables throughout, since a `take` or `drop` of a numeral computes to cases.
 use mathlib.Core.Path.{◌≡◌, refl, sym, ap, ap₂, ◌∙◌}
-use Prim.Native.Nat.{ℕ, ◌+◌, ◌-◌, ◌≤◌, ◌<◌}
+use Prim.Native.Nat.{ℕ, ◌+◌, ◌≤◌, ◌<◌}
 use native.Mathlib.Nat.{add_assoc, add-zero, zero-add}
 use native.Mathlib.Numerals.{add-one}
 use native.Mathlib.Omega.{arith}
 use mathlib.Core.List.{List, [], ◌∷◌, ◌++◌, append_assoc, append-nil}
 use lib.ListN.{length, take, drop, set, length-append, length-drop, take-append-drop, drop_of_length-le}
-use lib.Seq.{length-take-le, take_all, take-append-le, take-append-add, drop-append-le, drop-append-add, take_at, drop_at, drop-drop, set_split}
+use lib.Seq.{length-take-le, take-append-le, take-append-add, drop-append-le, drop-append-add, take_at, drop_at, drop-drop, set_split}
 use Rattle.octets.specs.Bytes.{written}
 
 pub length_written : (at : ℕ) (new old : List ℕ) → at + length new ≤ length old → length (written at new old) ≡ length old
@@ -153,19 +153,11 @@ take_written at new old h =
     ap (take (at + length new)) (sym (append_assoc (take at old) new (drop (at + length new) old)))
     ∙ take_at (take at old ++ new) (drop (at + length new) old) (at + length new) l
 
--- a list copied to the front of the rest of another, which was lent on
-pub copied_part : (at k : ℕ) (new part old : List ℕ) → at + length new ≤ length old → k ≡ length old - at
-    → part ≡ take (length new) new ++ drop (length new) (take k (drop at old))
+-- a list copied into as many places of another, which were lent on
+pub copied_part : (at k : ℕ) (new part old : List ℕ) → part ≡ new → k ≡ length new
     → take at old ++ (part ++ drop k (drop at old)) ≡ written at new old
 unfolding written
-copied_part at k new part old h e p =
-    let q = take k (drop at old) in
-    let l : length new ≤ length new = omega arith in
-    let w : part ≡ written 0 new q =
-    p ∙ ap₂ (λ (x : List ℕ) (n : ℕ). x ++ drop n q) (take_all (length new) new l) (sym (zero-add (length new))) in
-    ap (λ (x : List ℕ). take at old ++ (x ++ drop k (drop at old))) w
-    ∙ written_part at k 0 new old (omega arith) (omega arith)
-    ∙ ap (λ (n : ℕ). written n new old) (add-zero at)
+copied_part at k new part old p e = rw (p, e, drop-drop (length new) at old)
 
 -- a stretch up to the end: what stood before it, and the new elements
 pub written_last : (at : ℕ) (new old : List ℕ) → at + length new ≡ length old → written at new old ≡ take at old ++ new

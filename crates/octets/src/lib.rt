@@ -1,6 +1,8 @@
 // Bytes, and numbers in so many of them: copied, cleared, compared, read and written at an offset. These functions serve the other crates, whose proofs show
 // that what they ask for fits; no entry of the library is here.
 // Not here: what the bytes of a message, a card or a line mean.
+#![tactic(auto)]
+
 ghost use Rattle.std.specs.Prelude.{◌≡◌, ◌+◌, ◌≤◌, ◌<◌, ◌^◌, length};
 ghost use Rattle.octets.specs.Bytes.{written, zeros, same_bytes};
 ghost use Rattle.octets.specs.Numbers.{le, little_at, be, big_at};
@@ -10,7 +12,7 @@ pub fn copy(from: &[u8], to: &mut [u8], at: usize)
     requires { at + length from.now ≤ length to.old }
     ensures { to.new ≡ written at from.now to.old }
 {
-    bytes::copy(from, &mut to[at..]);
+    to[at..at + from.len()].copy_from_slice(from);
 }
 
 // Sets count bytes, from an offset on, to 0.
