@@ -4,8 +4,8 @@ use mathlib.Core.Bool.{Bool, cond}
 use native.Mathlib.Omega.{arith}
 use borrow.Author.Tests.{le-leb, lt-leb}
 use lib.ListN.{length}
-use Rattle.md5.specs.Block.{block_size}
-use Rattle.md5.specs.Message.{md5}
+use Rattle.md5_digest.specs.Block.{block_size}
+use Rattle.md5_digest.specs.Message.{md5}
 use Rattle.hmac_md5.specs.declared.Mac.{Mac}
 use Rattle.hmac_md5.specs.Limits.{HmacLimits}
 use Rattle.hmac_md5.proofs.Masks.{hmac_key_refused, hmac_text_refused, hmac_taken}

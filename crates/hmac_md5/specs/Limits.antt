@@ -2,7 +2,7 @@
 -- keys to 64 bytes, and texts to 65,535 bytes less the block that the key fills (docs/RULES.md, 'Digests'). The one proof is in proofs/Limits.antt.
 use Rattle.std.specs.Prelude.{ℕ, ◌≤◌, ◌≡◌, List, length}
 use Rattle.octets.specs.Bytes.{zeros}
-use Rattle.md5.specs.Message.{md5}
+use Rattle.md5_digest.specs.Message.{md5}
 use Rattle.hmac_md5.specs.Hmac.{key_for, hmac_of}
 
 pub record HmacLimits : Type 0 where

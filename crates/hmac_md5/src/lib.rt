@@ -1,22 +1,23 @@
 // HMAC-MD5 (RFC 2104) for keys up to a block (docs/RULES.md, 'Digests').
 // Not here: longer keys, which RFC 2104 digests first (the definition has them); they are refused.
-ghost use Rattle.std.specs.Prelude.{◌≡◌, ◌++◌, map, ◌+◌, ◌≤◌, length};
-ghost use Rattle.std.specs.Int.Bits.{bit_xor};
+#![tactic(auto)]
+
+ghost use Rattle.std.specs.Prelude.{◌≡◌, ◌++◌, map, ◌+◌, ◌≤◌, length, bit_xor};
 ghost use Rattle.octets.specs.Bytes.{filled};
-ghost use Rattle.md5.specs.Block.{block_size, load};
-ghost use Rattle.md5.specs.Message.{padding, output};
-ghost use Rattle.md5.specs.Entries.{digest_size};
+ghost use Rattle.md5_digest.specs.Block.{block_size, load};
+ghost use Rattle.md5_digest.specs.Message.{padding, output};
+ghost use Rattle.md5_digest.specs.Entries.{digest_size};
 ghost use Rattle.hmac_md5.specs.Hmac.{hmac_of};
 
-use md5::{BLOCK_SIZE, DIGEST_SIZE};
 use md5_block::{BLOCK_WORDS, Words};
+use md5_digest::{BLOCK_SIZE, DIGEST_SIZE};
 use refusal::Refusal;
 
 // The longest key that is taken.
 const KEY_MOST: usize = 64;
 
 // The longest text, as RFC 2104 calls the message: what a digest takes, less the block that the key fills.
-const TEXT_MOST: usize = md5::DIGEST_MOST - BLOCK_SIZE;
+const TEXT_MOST: usize = md5_digest::DIGEST_MOST - BLOCK_SIZE;
 
 // RFC 2104, section 2: the bytes of ipad and opad.
 const INNER: u8 = 0x36;
@@ -27,7 +28,7 @@ const OUTER: u8 = 0x5c;
 const OUTER_BITS: u32 = 640;
 
 // What HMAC gives: number 0 and the MAC, or the refusal's number and 16 zero bytes.
-#[derive(Drop)]
+#[derive(Clone, Copy)]
 pub struct Mac {
     pub number: u8,
     pub mac: [u8; DIGEST_SIZE],
@@ -83,11 +84,11 @@ pub fn hmac(key: &[u8], message: &[u8]) -> Mac
         };
     }
     let padded = padded_key(key);
-    let inner = md5::words_after_first(masked_block(padded, INNER));
-    let outer = md5::words_after_first(masked_block(padded, OUTER));
-    let last = last_block(md5::words_after_rest(inner, message));
+    let inner = md5_digest::words_after_first(masked_block(padded, INNER));
+    let outer = md5_digest::words_after_first(masked_block(padded, OUTER));
+    let last = last_block(md5_digest::words_after_rest(inner, message));
     Mac {
         number: 0,
-        mac: md5::bytes_of(md5_block::block(outer, last)),
+        mac: md5_digest::bytes_of(md5_block::block(outer, last)),
     }
 }
