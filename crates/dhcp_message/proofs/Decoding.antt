@@ -1,4 +1,4 @@
--- `decode` and `encode` undo each other. Of the laws these alone unfold `decodeAt`; the others go by `decode-cons` and `encode-decode`.
+-- `decode` and `encode` undo each other. Of the laws these alone unfold `decode_at`; the others go by `decode_cons` and `encode_decode`.
 use mathlib.Core.Path.{◌≡◌, refl, sym, ap, ◌∙◌, fun_ext, subst}
 use mathlib.Core.Logic.{◌≢◌}
 use Prim.Native.Nat.{ℕ, zero, suc, ◌≤◌, ◌<◌}

@@ -63,7 +63,8 @@ options_read : Reads (drop 240 distinct) options (82 ∷ 0 ∷ [])
 options_read = ((omega arith, omega arith, omega arith, (omega arith, omega arith, omega arith, (omega arith, omega arith, omega arith, tt))), refl)
 
 pub layout_pinned : LayoutPinned
-unfolding said_of form_of shape_of message_type_of checked_of checked_tokens decode_at scan_of seen_of said_by image_of cover_fits image_at cover_bytes cover_size
+unfolding said_of form_of shape_of message_type_of checked_of checked_tokens decode_at scan_of seen_of said_by image_of cover_fits image_at
+    cover_bytes cover_size
     cover_left written fields_put mac_put be big_at
 layout_pinned = record {
   form = refl;

@@ -8,7 +8,7 @@ use mathlib.Core.List.{List, [], ◌∷◌, ◌++◌}
 use lib.ListN.{length, length-append}
 use lib.Dec.{eqb}
 use borrow.Author.Tests.{eq-eqb, eqb-true, eqb-false}
-use Rattle.dhcp_message.specs.Options.{Token, pad, opt, encode, body}
+use Rattle.dhcp_message.specs.Options.{Token, pad, opt, encode}
 use Rattle.dhcp_message.specs.Message.{count, option_of, tokens_before}
 use Rattle.dhcp_message.specs.Scan.{seen_of, scan_from}
 use Rattle.dhcp_message.specs.declared.scan.Tally.{Tally}

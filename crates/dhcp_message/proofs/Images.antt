@@ -114,7 +114,7 @@ module _ {m : List ℕ} {a : Auth} (y : Fully m a) where
   abbrev until : List Token → ℕ
   until us = 240 + length (encode us)
 
-  -- option 82 and option 90 don't overlap, and without option 82 option 90 stands at `imageAt`
+  -- option 82 and option 90 don't overlap, and without option 82 option 90 stands at `image_at`
   record Stands : Type 0 where
     pub apart : Apart a
     pub in_image : 240 + length (encode front) ≡ image_at a

@@ -1,4 +1,4 @@
--- A new counter, by its two cases. The only law file that unfolds `isNew`.
+-- A new counter, by its two cases. The only law file that unfolds `is_new`.
 use mathlib.Core.Path.{◌≡◌, refl}
 use mathlib.Core.Logic.{◌⊎◌, inl, inr}
 use mathlib.Core.Bool.{Bool, true, false, true≢false}

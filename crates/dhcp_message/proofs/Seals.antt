@@ -26,7 +26,8 @@ use Rattle.dhcp_message.specs.declared.Form.TheVariants.{Refused, Full}
 use Rattle.dhcp_message.proofs.Decoding.{Codes, codes_append, codes_left, codes_right}
 use Rattle.dhcp_message.proofs.Tokens.{auth_not_relay, encode_append, count_append, option_other, before_other, option_there, before_there}
 use Rattle.dhcp_message.proofs.Tokens.{without_append, zero_append, written_body, option_at, before_at}
-use Rattle.dhcp_message.proofs.Passing.{Passing, said_in_lem, named_in, form_in_lem, passing_27, take_built, passing_built, header_size_lem, header_magic, codes}
+use Rattle.dhcp_message.proofs.Passing.{Passing, said_in_lem, named_in, form_in_lem, passing_27, take_built, passing_built, header_size_lem}
+use Rattle.dhcp_message.proofs.Passing.{header_magic, codes}
 use Rattle.dhcp_message.proofs.Passing.{form_passed, said_passed, image_passed, around, front_size}
 use Rattle.dhcp_message.proofs.FullForms.{Fully, fully, option, parts, at_is, cut_is, gap_is, counter_is, id_is, body_long, at_late, option_inside}
 use Rattle.dhcp_message.proofs.FullForms.{from_at, counter_there, id_there, said_there}

@@ -124,7 +124,10 @@ module _ (m : List ℕ) where
 
       module _ (t : k ≡ true) where
         shape_go : shape_scan (scan_of m) ≡ shape_of m
-        shape_go = ap shape_scan (sym (head_start m).0) ∙ shape_scan_lem (decode (drop 240 m)) ∙ sym (shape_in_lem m ∙ ap shape_in (checks_options m h₀ h₁ (sym ek ∙ t)))
+        shape_go =
+            ap shape_scan (sym (head_start m).0)
+            ∙ shape_scan_lem (decode (drop 240 m))
+            ∙ sym (shape_in_lem m ∙ ap shape_in (checks_options m h₀ h₁ (sym ek ∙ t)))
 
         pub shape_broken : SBroken ≡ scan_of m → SRefused BrokenOptions ≡ shape_of m
         shape_broken e = ap shape_scan e ∙ shape_go

@@ -2,6 +2,8 @@
 // authentication, the bytes that its MAC covers, the writers of counter, secret id and MAC, the message type, what stands at an offset
 // of the options, and whether a counter is new.
 // Not here: the key, the MAC itself, where counters are stored, and what option 90 says by a nonce (forcerenew).
+#![tactic(auto)]
+
 pub use image::cover;
 pub use layout::{
     COUNTER_AT, COUNTER_SIZE, FULL_SIZE, GIADDR_AT, GIADDR_SIZE, HEADER_SIZE, HOPS_AT, HOPS_SIZE,
@@ -23,7 +25,7 @@ mod seal;
 mod types;
 
 // What stands at an offset of the options. An option is told by its code and the bytes that it takes.
-#[derive(Drop)]
+#[derive(Clone, Copy)]
 pub enum Here {
     // Nothing whole.
     Broken,
@@ -33,7 +35,7 @@ pub enum Here {
 }
 
 // Where things stand in a message that passes 2 to 7, as in `Auth`.
-#[derive(Drop)]
+#[derive(Clone, Copy)]
 pub struct Places {
     pub at: usize,
     pub cut: usize,
@@ -41,14 +43,14 @@ pub struct Places {
 }
 
 // What checks 2 to 7 give.
-#[derive(Drop)]
+#[derive(Clone, Copy)]
 pub enum Shape {
     Refused(Refusal),
     Passed(Places),
 }
 
 // The message type that option 53 states, or that it states none.
-#[derive(Drop)]
+#[derive(Clone, Copy)]
 pub enum MessageType {
     Stated(u8),
     Unstated,
@@ -56,7 +58,7 @@ pub enum MessageType {
 
 // What option 90 in full form says, and where in the message: `at` is the offset of its code; option 82, before it or behind it, takes `gap` bytes
 // from `cut` on, none of them where the message has no option 82.
-#[derive(Drop)]
+#[derive(Clone, Copy)]
 pub struct Auth {
     pub at: usize,
     pub counter: u64,
@@ -66,7 +68,7 @@ pub struct Auth {
 }
 
 // What checks 2 to 9 give.
-#[derive(Drop)]
+#[derive(Clone, Copy)]
 pub enum Form {
     Refused(Refusal),
     Full(Auth),

@@ -14,7 +14,7 @@ use crate::{Here, Places, Shape};
 use refusal::Refusal;
 
 // What a scan has found: how many options 90 and 82, where the last of each stands, and the bytes that 82 takes.
-#[derive(Drop)]
+#[derive(Clone, Copy)]
 pub(crate) struct Tally {
     pub n90: usize,
     pub at90: usize,
@@ -24,7 +24,7 @@ pub(crate) struct Tally {
 }
 
 // What a scan of all options gives: an option passes the message's end or End is missing; or what was found, and End's offset.
-#[derive(Drop)]
+#[derive(Clone, Copy)]
 pub(crate) enum Scan {
     Broken,
     Whole { found: Tally, end: usize },

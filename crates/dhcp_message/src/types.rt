@@ -10,7 +10,7 @@ use crate::scan::here_at;
 use crate::{Here, MessageType};
 
 // What a pass has found of option 53: none, one that states a type, or what states none whatever follows.
-#[derive(Drop)]
+#[derive(Clone, Copy)]
 pub(crate) enum Typing {
     NotYet,
     As(u8),
