@@ -1,5 +1,5 @@
 -- The search by halving: that what computes it is the rules' steps (`Halves`), what a row found holds, and that on ascending ids it is the search over all
--- rows. The only law file that unfolds `halvedIn`, `halved` and `known_of`. How many looks there are is in proofs/Looks.antt.
+-- rows. The only law file that unfolds `halved_in`, `halved` and `known_of`. How many looks there are is in proofs/Looks.antt.
 use mathlib.Core.Path.{◌≡◌, refl, sym, ap, ◌∙◌}
 use mathlib.Core.Logic.{◌↔◌, ◌≢◌, ⊎_elim}
 use mathlib.Core.Bool.{Bool, true, false, and-eq-true_iff, true≢false}

@@ -1,4 +1,4 @@
--- The key of a row, by whether it fits the store. The only law file that unfolds `keyFits`, `keyStart` and `keyIn`.
+-- The key of a row, by whether it fits the store. The only law file that unfolds `key_fits`, `key_start` and `key_in`.
 use mathlib.Core.Path.{◌≡◌, sym, ap}
 use mathlib.Core.Bool.{true, and-eq-true_iff}
 use mathlib.Core.List.{List, []}

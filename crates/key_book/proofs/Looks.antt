@@ -1,5 +1,5 @@
 -- How many ids a search by halving looks at: no more than the count has binary digits, and for some lists as many. The only law file that unfolds
--- `digitsIn` and `binaryDigits`.
+-- `digits_in` and `binary_digits`.
 use mathlib.Core.Path.{◌≡◌, refl, sym, ap, ◌∙◌}
 use mathlib.Core.Logic.{◌↔◌}
 use mathlib.Core.List.{List}

@@ -75,7 +75,7 @@ sound_says b = (
       (((s.sizes, s.rows_fit), s.rows_few), λ k h. s.ids_ascend k (k + 1) (omega arith) (omega arith)),
       λ k h. (s.keys_from k h, s.keys_to k h),
     ),
-    s.marks_fit,
+    s.marks_fit_lem,
   ),
 )
 

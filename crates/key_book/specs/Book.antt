@@ -1,10 +1,11 @@
 -- The key book as it is lent, when it is sound, the row of a secret id and the key of a row: docs/RULES.md, 'The key book'.
 -- `Sound` is the rules' sentence and `sound` computes it; specs/Laws.antt states that they agree.
-use Rattle.std.specs.Prelude.{◌≡◌, ◌⊎◌, Bool, true, cond, ◌&&◌, List, [], ◌∷◌, ℕ, zero, suc, ◌+◌, ◌-◌, ◌*◌, ◌^◌, ◌≤◌, ◌<◌, leb, ltb, eqb, length, get_or, take, drop}
+use Rattle.std.specs.Prelude.{◌≡◌, ◌⊎◌, Bool, true, cond, ◌&&◌, List, [], ◌∷◌, ℕ, zero, suc, ◌+◌, ◌-◌, ◌*◌, ◌^◌, ◌≤◌, ◌<◌, leb, ltb, eqb, length}
+use Rattle.std.specs.Prelude.{get_or, take, drop}
 use Rattle.std.proofs.Math.Option.{Option, none, some}
 use Rattle.key_book.specs.Limits.{rows_most, slot_size, room_most, not_heard, heard}
 
--- The seven lent things. Row k is the k-th of each list, and of the store the slot of `slotSize` bytes from `slotSize * k`.
+-- The seven lent things. Row k is the k-th of each list, and of the store the slot of `slot_size` bytes from `slotSize * k`.
 -- Only the rows below `rows` are in use.
 pub record Book : Type 0 where
   pub ids : List ℕ
@@ -27,7 +28,7 @@ pub record Lent (b : Book) : Type 0 where
   pub received_fits : (k : ℕ) → get_or b.received k 0 < 2 ^ 64
   pub sent_fits : (k : ℕ) → get_or b.sent k 0 < 2 ^ 64
 
--- all lists have room for the same number of rows, which is at most `roomMost`
+-- all lists have room for the same number of rows, which is at most `room_most`
 pub record Sized (b : Book) : Type 0 where
   pub room : length b.ids ≤ room_most
   pub lengths_agree : length b.lengths ≡ length b.ids
@@ -41,7 +42,7 @@ pub record MarkFits (mark received : ℕ) : Type 0 where
   pub known : (mark ≡ not_heard) ⊎ (mark ≡ heard)
   pub fresh : mark ≡ not_heard → received ≡ 0
 
--- a sound book: the sizes agree, the rows in use have room and are not too many, their ids ascend strictly, their key lengths are 1 to `slotSize`, and
+-- a sound book: the sizes agree, the rows in use have room and are not too many, their ids ascend strictly, their key lengths are 1 to `slot_size`, and
 -- their marks and received counters are as `MarkFits` says
 pub record Sound (b : Book) : Type 0 where
   pub sizes : Sized b

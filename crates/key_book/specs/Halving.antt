@@ -55,7 +55,7 @@ halved ids count id = halved_in ids id count 0 count
 
 -- ---- the entry
 
--- what is taken: a list of at most `roomMost` ids, and a count that is not above it
+-- what is taken: a list of at most `room_most` ids, and a count that is not above it
 pub record Taken (ids : List ℕ) (count : ℕ) : Type 0 where
   pub room : length ids ≤ room_most
   pub counted : count ≤ length ids

@@ -42,7 +42,7 @@ pub record Within (b : Book) (k : ℕ) : Type 0 where
 abbrev pub RowsWithin : Type 0
 RowsWithin = (b : Book) → Sound b → (k : ℕ) → k < b.rows → Within b k
 
--- a key: the first bytes of its row's slot, 1 to `slotSize` of them
+-- a key: the first bytes of its row's slot, 1 to `slot_size` of them
 pub record KeyOfRow (b : Book) (k : ℕ) : Type 0 where
   pub size : length (key_of b k) ≡ get_or b.lengths k 0
   pub from_one : 1 ≤ length (key_of b k)

@@ -3,6 +3,8 @@
 //
 // A book has room for n rows: ids, key lengths, marks and two rows of counters have n elements, and the key store a slot of SLOT_SIZE bytes per row.
 // Only the first `rows` of them are in use. Slot bytes past a key, and rows from `rows` on, affect no answer.
+#![tactic(auto)]
+
 ghost use Rattle.std.specs.Prelude.{◌≡◌, ◌≤◌, length};
 ghost use Rattle.key_book.specs.Book.{book_of, sized, ascending, key_sizes, mark_fits, marks_heard, marks_fit, sound};
 ghost use Rattle.key_book.specs.Book.{key_in, key_start, moved_on};
@@ -21,7 +23,7 @@ pub const NOT_HEARD: u8 = 0;
 pub const HEARD: u8 = 1;
 
 // What a search by halving comes to.
-#[derive(Drop)]
+#[derive(Clone, Copy)]
 pub enum Sought {
     // The id stands in this row, and so many ids were looked at.
     Stands(usize, usize),

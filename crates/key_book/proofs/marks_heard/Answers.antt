@@ -1,0 +1,14 @@
+use borrow.Author.Rules.{rules}
+use mathlib.Core.Path.{refl}
+use Rattle.key_book.proofs.Below.{pass_start, pass_turn}
+use Rattle.key_book.proofs.Steps.{heard_end}
+use Rattle.key_book.proofs.marks_heard.Goals as goal
+
+pub loop-k-init : goal.loop-k-init
+loop-k-init c = pass_start _ _
+
+pub loop-k-preserved : goal.loop-k-preserved
+loop-k-preserved c = pass_turn _ _ c.loop-k.invariant (search rules) refl
+
+pub returns : goal.returns
+returns c = heard_end _ _ c.loop-k.invariant (search rules)
