@@ -1,5 +1,5 @@
 -- 1 to 9, once for check, key and seal: what is admitted, by whether the book is sound; and what is known of a row found on a sound book.
--- The only law file that unfolds `admittedSaid` and `admittedForm`.
+-- The only law file that unfolds `admitted_said` and `admitted_form`.
 use mathlib.Core.Path.{◌≡◌, refl, sym, ap, ◌∙◌}
 use mathlib.Core.Bool.{Bool, true, false, cond}
 use mathlib.Core.List.{List}

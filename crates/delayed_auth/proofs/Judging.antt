@@ -1,5 +1,5 @@
--- The ends of a check, each as one case: what is so where the answer is this one (`check-case`), and that the answer is this one where that is
--- so (`case-check`). The only law file that unfolds `checkOf` and its stages.
+-- The ends of a check, each as one case: what is so where the answer is this one (`check_case`), and that the answer is this one where that is
+-- so (`case_check`). The only law file that unfolds `check_of` and its stages.
 use mathlib.Core.Path.{◌≡◌, refl, sym, ap, ◌∙◌}
 use mathlib.Core.Logic.{◌≢◌}
 use mathlib.Core.Bool.{Bool, true, false}

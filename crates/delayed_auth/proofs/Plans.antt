@@ -1,4 +1,4 @@
--- The ends of a seal: each plan as one case, and back; and what a plan leads to. The only law file that unfolds `plan_of` and its stages, and `sealOf`.
+-- The ends of a seal: each plan as one case, and back; and what a plan leads to. The only law file that unfolds `plan_of` and its stages, and `seal_of`.
 use mathlib.Core.Path.{◌≡◌, refl, sym, ap, ◌∙◌}
 use mathlib.Core.Logic.{◌≢◌}
 use mathlib.Core.Bool.{Bool, true, false}

@@ -1,4 +1,4 @@
--- What the two writers leave in a message, one after the other: the message that `sealedMessage` says. The only law file that unfolds it.
+-- What the two writers leave in a message, one after the other: the message that `sealed_message` says. The only law file that unfolds it.
 use mathlib.Core.Path.{◌≡◌, refl, sym, ap, subst, ◌∙◌}
 use mathlib.Core.List.{List, ◌++◌}
 use Prim.Native.Nat.{ℕ, ◌+◌, ◌-◌, ◌^◌, ◌≤◌, ◌<◌}

@@ -3,6 +3,8 @@
 // Not here: reading a message (dhcp_message), the MAC function (hmac_md5) and the book (key_book).
 //
 // Every entry takes the lent book as ids, key lengths, key store, marks, received counters, sent counters and row count, in this order.
+#![tactic(auto)]
+
 mod checks;
 mod keys;
 mod seals;
@@ -24,35 +26,35 @@ use refusal::Refusal;
 pub use seals::seal;
 
 // What a check answers: the row and the counter, which it has stored; or what is wrong.
-#[derive(Drop)]
+#[derive(Clone, Copy)]
 pub enum Verdict {
     Accepted(usize, u64),
     Refused(Refusal),
 }
 
 // The row of the secret that a message names; or what is wrong.
-#[derive(Drop)]
+#[derive(Clone, Copy)]
 pub enum Keyed {
     Row(usize),
     NoKey(Refusal),
 }
 
 // What a seal answers: the counter that it wrote and stored; or what is wrong.
-#[derive(Drop)]
+#[derive(Clone, Copy)]
 pub enum Sealing {
     Sealed(u64),
     Unsealed(Refusal),
 }
 
 // What a seal goes by: option 90 as it was found, and the row of the given id; or what is wrong.
-#[derive(Drop)]
+#[derive(Clone, Copy)]
 pub(crate) enum Plan {
     Ready(Auth, usize),
     NotReady(Refusal),
 }
 
 // Where a secret id stands in a sound book.
-#[derive(Drop)]
+#[derive(Clone, Copy)]
 pub(crate) enum Found {
     // Its row.
     At(usize),
