@@ -1,5 +1,5 @@
--- The ends of a judgement, each as one case: what is so where the judgement is this one (`judge-case`), and that it is this one where that is so
--- (`case-judge`). It unfolds `judgeOf`, `shownOf` and `serverAt`; Stored does so once more, for what a judgement depends on.
+-- The ends of a judgement, each as one case: what is so where the judgement is this one (`judge_case`), and that it is this one where that is so
+-- (`case_judge`). It unfolds `judge_of`, `shown_of` and `server_at`; Stored does so once more, for what a judgement depends on.
 use mathlib.Core.Path.{◌≡◌, refl, sym, ap, ◌∙◌, subst}
 use mathlib.Core.Logic.{◌≢◌}
 use mathlib.Core.Bool.{Bool, true, false, ◌&&◌, ◌||◌, not}

@@ -4,8 +4,8 @@ use Rattle.octets.specs.Bytes.{written, filled, same_bytes}
 use Rattle.octets.specs.Numbers.{le, value, little_at, be, big_at}
 use Rattle.md5_block.specs.Word.{rotl, auxiliary, word_no, additive, rotations}
 use Rattle.md5_block.specs.Block.{step_with, step_at, steps, round, compress}
-use Rattle.md5.specs.Block.{load_to, load, blocks}
-use Rattle.md5.specs.Message.{md5, padded, padding, output}
+use Rattle.md5_digest.specs.Block.{load_to, load, blocks}
+use Rattle.md5_digest.specs.Message.{md5, padded, padding, output}
 use Rattle.hmac_md5.specs.Hmac.{masked, hmac}
 use Rattle.dhcp_message.specs.Options.{decode_at}
 use Rattle.dhcp_message.specs.Message.{checked_tokens, checked_of}
@@ -20,7 +20,8 @@ use Rattle.forcerenew.specs.Examples.{NonceExamples}
 
 pub nonce_examples : NonceExamples
 unfolding rotl auxiliary word_no additive rotations step_with step_at steps round compress load_to load blocks md5 padded padding output masked hmac
-    written filled same_bytes le value little_at be big_at decode_at checked_tokens checked_of shape_of said_by form_of message_type_of is_new marks_known sound_rows
+    written filled same_bytes le value little_at be big_at decode_at checked_tokens checked_of shape_of said_by form_of message_type_of is_new
+    marks_known sound_rows
     server_at goes_with shown_at shown_of judge_of
 nonce_examples = record {
   ack_shows = refl;

@@ -130,7 +130,7 @@ module _ (m : List ℕ) (front : List Token) (body : List ℕ) (back : List Toke
     image = zeroed;
   }
 
--- ---- the statement: the options read as tokens with option 90 at the offset (`shape-given`)
+-- ---- the statement: the options read as tokens with option 90 at the offset (`shape_given`)
 
 pub offsets_say : OffsetsSay
 offsets_say = record {

@@ -80,7 +80,7 @@ module _ (s : Servers) where
 
   sound_from : SoundRows s → sound_rows s ≡ true
   unfolding sound_rows
-  sound_from h = rw (eq-eqb _ _ h.nonces_agree, eq-eqb _ _ h.counters_agree) (all_known s.marks h.marks_known)
+  sound_from h = rw (eq-eqb _ _ h.nonces_agree, eq-eqb _ _ h.counters_agree) (all_known s.marks h.marks_known_lem)
 
 pub rows_say : RowsSay
 rows_say = record { sound = λ s. (sound_to s, sound_from s) }

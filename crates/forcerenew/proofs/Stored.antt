@@ -80,7 +80,7 @@ module _ (s : Servers) (k : ℕ) (m : List ℕ) where
   rows_kept_lem h = record {
     nonces_agree = nonces_size (judge_of s k m) refl ∙ h.nonces_agree ∙ ap (λ (n : ℕ). value_size * n) (sym room_kept);
     counters_agree = counters_size k (judge_of s k m) s.counters ∙ h.counters_agree ∙ sym room_kept;
-    marks_known_lem = λ j l. marks_stay k (judge_of s k m) s.marks h.marks_known j (rw room_kept at l);
+    marks_known_lem = λ j l. marks_stay k (judge_of s k m) s.marks h.marks_known_lem j (rw room_kept at l);
   }
 
   -- where the rows are not sound nothing is stored

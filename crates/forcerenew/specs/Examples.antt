@@ -76,8 +76,10 @@ pub record NonceExamples : Type 0 where
   -- before 19
   pub number_10 : number_for (rows_with 0 2) 2 (distinct_of (90 ∷ 0 ∷ ended)) ≡ 10
   pub number_19_length : number_for (rows_with 0 2) 0 (distinct_of (53 ∷ 1 ∷ 5 ∷ 90 ∷ 29 ∷ 3 ∷ 1 ∷ 0 ∷ (up_from 201 8 ++ (1 ∷ (up_from 101 17 ++ ended))))) ≡ 19
-  pub number_19_protocol : number_for (rows_with 0 2) 0 (distinct_of (53 ∷ 1 ∷ 5 ∷ 90 ∷ 28 ∷ 1 ∷ 1 ∷ 0 ∷ (up_from 201 8 ++ (1 ∷ (up_from 101 16 ++ ended))))) ≡ 19
-  pub number_19_algorithm : number_for (rows_with 0 2) 0 (distinct_of (53 ∷ 1 ∷ 5 ∷ 90 ∷ 28 ∷ 3 ∷ 2 ∷ 0 ∷ (up_from 201 8 ++ (1 ∷ (up_from 101 16 ++ ended))))) ≡ 19
+  pub number_19_protocol : number_for (rows_with 0 2) 0 (distinct_of (53 ∷ 1 ∷ 5 ∷ 90 ∷ 28 ∷ 1 ∷ 1 ∷ 0 ∷
+      (up_from 201 8 ++ (1 ∷ (up_from 101 16 ++ ended))))) ≡ 19
+  pub number_19_algorithm : number_for (rows_with 0 2) 0 (distinct_of (53 ∷ 1 ∷ 5 ∷ 90 ∷ 28 ∷ 3 ∷ 2 ∷ 0 ∷
+      (up_from 201 8 ++ (1 ∷ (up_from 101 16 ++ ended))))) ≡ 19
   pub number_19_method : number_for (rows_with 0 2) 0 (distinct_of (53 ∷ 1 ∷ 5 ∷ 90 ∷ 28 ∷ 3 ∷ 1 ∷ 1 ∷ (up_from 201 8 ++ (1 ∷ (up_from 101 16 ++ ended))))) ≡ 19
   pub number_20_nonce : number_for (rows_with 0 2) 0 (distinct_of (53 ∷ 1 ∷ 9 ∷ (nonce_auth 1 (up_from 101 16) ++ ended))) ≡ 20
   pub number_20_order : number_for (rows_with 0 2) 1 (distinct_of (53 ∷ 1 ∷ 5 ∷ (nonce_auth 2 some_mac ++ ended))) ≡ 20

@@ -1,5 +1,5 @@
 -- Server rows as they are lent (docs/RULES.md, 'FORCERENEW by nonce'): for each server the nonce that it gave, the counter of its last FORCERENEW, and a
--- mark. The marks are not those of a key book's rows. `SoundRows` is the rules' sentence and `soundRows` computes it; that they agree is `RowsSay`.
+-- mark. The marks are not those of a key book's rows. `SoundRows` is the rules' sentence and `sound_rows` computes it; that they agree is `RowsSay`.
 use Rattle.std.specs.Prelude.{ℕ, ◌*◌, ◌≤◌, ◌<◌, ◌≡◌, ◌↔◌, Bool, true, cond, ◌&&◌, not, List, [], ◌∷◌, leb, ltb, eqb, length, get_or, take, drop}
 use Rattle.std.proofs.Math.Option.{Option, none, some}
 use Rattle.forcerenew.specs.Layout.{value_size}

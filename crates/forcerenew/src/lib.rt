@@ -4,6 +4,8 @@
 // which nothing in it shows.
 //
 // Server rows are lent as nonces, counters and marks, in this order: for n rows 16 * n bytes, n numbers and n bytes. Their marks are not a book's.
+#![tactic(auto)]
+
 pub use judging::judge;
 pub use layout::{GIVES_NONCE, NONCE_SIZE, ORDERS_RENEWAL};
 use refusal::Refusal;
@@ -15,14 +17,14 @@ mod rows;
 mod shown;
 
 // What a judgement answers: option 90's type and the message's counter; or what is wrong.
-#[derive(Drop)]
+#[derive(Clone, Copy)]
 pub enum Judged {
     Accepted(u8, u64),
     Refused(Refusal),
 }
 
 // What a message shows whose options can be read: what is wrong with it; that it gives a nonce, or orders a renewal, with its counter.
-#[derive(Drop)]
+#[derive(Clone, Copy)]
 pub(crate) enum Shows {
     Unfit(Refusal),
     Gives(u64),
@@ -30,7 +32,7 @@ pub(crate) enum Shows {
 }
 
 // What is to be done: take the nonce of the option 90 at an offset; nothing, since the row has that nonce; store the counter of an order; refuse.
-#[derive(Drop)]
+#[derive(Clone, Copy)]
 pub(crate) enum Plan {
     Takes(usize, u64),
     Knows(u64),
