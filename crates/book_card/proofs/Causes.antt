@@ -139,7 +139,8 @@ pub data FaultIs (s : List ℕ) : Fault → Type 0 where
   of_kind : kind_in s ≢ close_kind → ((form : CardForm) → kind_in s ≢ row_kind form) → FaultIs s UnknownKind
   of_close : kind_in s ≡ close_kind → size_in s ≢ close_size - length_size → FaultIs s WrongLength
   of_row : (form : CardForm) → kind_in s ≡ row_kind form → (size_in s < row_from form) ⊎ (row_to form < size_in s) → FaultIs s WrongLength
-  of_mark : (form : CardForm) → kind_in s ≡ row_kind form → row_from form ≤ size_in s → size_in s ≤ row_to form → mark_in form s ≢ not_heard → mark_in form s ≢ heard
+  of_mark : (form : CardForm) → kind_in s ≡ row_kind form → row_from form ≤ size_in s → size_in s ≤ row_to form → mark_in form s ≢ not_heard
+      → mark_in form s ≢ heard
       → FaultIs s WrongMark
   of_counter : (form : CardForm) → kind_in s ≡ row_kind form → row_from form ≤ size_in s → size_in s ≤ row_to form → mark_in form s ≡ not_heard
       → little_at s (received_at form) counter_size ≢ 0 → FaultIs s NotHeardCounter
@@ -159,7 +160,8 @@ module _ (mark received : ℕ) (h : mark_fits mark received ≡ false) where
   misfit_mark z = true≢false (sym ((mark_fits_says mark received).1 (record { known = inr z; fresh = λ n. absurd (let q = sym n ∙ z in omega arith) })) ∙ h)
 
 module _ (form : CardForm) (s : List ℕ) (f : form ≡ form_in s) (w : Whole s) where
-  why_row : kind_in s ≢ close_kind → kind_in s ≡ row_kind form → (t : Bool) → ltb (size_in s) (row_from form) ≡ t → (u : Bool) → ltb (row_to form) (size_in s) ≡ u
+  why_row : kind_in s ≢ close_kind → kind_in s ≡ row_kind form → (t : Bool) → ltb (size_in s) (row_from form) ≡ t
+      → (u : Bool) → ltb (row_to form) (size_in s) ≡ u
       → (v : Bool) → mark_fits (mark_in form s) (little_at s (received_at form) counter_size) ≡ v → (z : Bool) → eqb (mark_in form s) not_heard ≡ z
       → Why form s (cond t Broken
       (cond u Broken

@@ -1,6 +1,6 @@
--- The ends of reading a card, of writing one and of moving one, each as one case: what is so where this is answered and this is left (`read-case`,
--- `write-case`, `move-case`), and that this is answered and left where that is so (`case-read`, `case-write`, `case-move`).
--- The only law file that unfolds `read_of`, `readBook`, `rowsIn`, `writeOf`, `roomAfter`, `move_of` and `roomMoved`.
+-- The ends of reading a card, of writing one and of moving one, each as one case: what is so where this is answered and this is left (`read_case`,
+-- `write_case`, `move_case`), and that this is answered and left where that is so (`case_read`, `case_write`, `case_move`).
+-- The only law file that unfolds `read_of`, `read_book`, `rows_in_lem`, `write_of`, `room_after`, `move_of` and `room_moved`.
 use mathlib.Core.Path.{◌≡◌, refl, sym, ap, ◌∙◌}
 use mathlib.Core.Bool.{Bool, true, false, cond, true≢false}
 use mathlib.Core.Option.{Option, none, some}

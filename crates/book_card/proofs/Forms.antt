@@ -1,5 +1,5 @@
 -- The two forms: what the size of the mark and the kind of a row are, and the mark of the row in front. The only law file of this crate that unfolds
--- `markSize`, `row_kind`, `markIn` and `formIn`; for the largest card card_laws/proofs/Largest unfolds `markSize` too.
+-- `mark_size`, `row_kind`, `mark_in` and `form_in_lem`; for the largest card card_laws/proofs/Largest unfolds `mark_size` too.
 use mathlib.Core.Path.{◌≡◌, refl, sym, ◌∙◌}
 use mathlib.Core.Logic.{◌≢◌, ⊎_elim}
 use mathlib.Core.List.{List, ◌++◌}

@@ -1,4 +1,4 @@
--- Each case of `frontOf` at a place of a card, by what the tests of `front_at` and `row_at` say.
+-- Each case of `front_of` at a place of a card, by what the tests of `front_at` and `row_at` say.
 use mathlib.Core.Path.{◌≡◌, sym, ap, ◌∙◌}
 use mathlib.Core.Logic.{◌≢◌}
 use mathlib.Core.Bool.{Bool, true, false, not}

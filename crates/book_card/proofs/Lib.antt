@@ -12,6 +12,5 @@ pub mod Ends
 pub mod Writes
 pub mod Walks
 pub mod Fills
-pub mod Rowless
 pub mod Puts
 pub mod Moves

@@ -1,4 +1,4 @@
--- Setting rows of a book: one from its record on a card, and many one by one. No other law unfolds `set_row`, `putRow` and `loaded`.
+-- Setting rows of a book: one from its record on a card, and many one by one. No other law unfolds `set_row`, `put_row` and `loaded`.
 use mathlib.Core.Path.{◌≡◌, refl, sym, ap, ◌∙◌}
 use mathlib.Core.Bool.{Bool, true, false, not, ◌&&◌}
 use mathlib.Core.List.{List, [], ◌∷◌, map}

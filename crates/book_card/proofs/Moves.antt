@@ -45,7 +45,8 @@ module _ {form : CardForm} {card : List ℕ} {n : ℕ} (q : CardRows form card n
 
 -- ---- rows not heard
 
-heard_more : (rows : List Row) (row : ℕ) → row < length rows → (get_or rows row empty_row).mark ≡ heard → all_heard (drop row rows) ≡ all_heard (drop (row + 1) rows)
+heard_more : (rows : List Row) (row : ℕ) → row < length rows → (get_or rows row empty_row).mark ≡ heard
+    → all_heard (drop row rows) ≡ all_heard (drop (row + 1) rows)
 unfolding all_heard
 heard_more rows row h e = rw (drop-cons rows row empty_row h, eq-eqb _ heard e, add-one row)
 

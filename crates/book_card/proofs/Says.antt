@@ -1,4 +1,4 @@
--- The reader agrees with the card: `rowsInFront` gives the rows of a form in front of bytes and how they end, and `readCard` gives rows exactly where the
+-- The reader agrees with the card: `rows_in_front` gives the rows of a form in front of bytes and how they end, and `read_card` gives rows exactly where the
 -- bytes are the card of those rows in either form.
 -- By induction on the rows one way, and on the rows still allowed the other way; each step is the record in front (proofs/Shape.antt).
 use mathlib.Core.Path.{◌≡◌, refl, sym, ap, ap₂, ◌∙◌}
@@ -34,7 +34,8 @@ module _ (form : CardForm) where
   After low [] = Unit {0}
   After low (r ∷ rows) = (low ≤ r.id) × (RowFits form r × After (suc r.id) rows)
 
-  after_at : (low : ℕ) (rows : List Row) → After low rows → (k : ℕ) → k < length rows → (low ≤ (get_or rows k empty_row).id) × RowFits form (get_or rows k empty_row)
+  after_at : (low : ℕ) (rows : List Row) → After low rows → (k : ℕ) → k < length rows
+      → (low ≤ (get_or rows k empty_row).id) × RowFits form (get_or rows k empty_row)
   unfolding After
   after_at low [] a k h = absurd (omega arith)
   after_at low (r ∷ rows) a zero h = (a.0, a.1.0)
@@ -44,7 +45,8 @@ module _ (form : CardForm) where
       let m = t.0 in
       (omega arith, t.1)
 
-  after_ascends : (low : ℕ) (rows : List Row) → After low rows → (j k : ℕ) → j < k → k < length rows → (get_or rows j empty_row).id < (get_or rows k empty_row).id
+  after_ascends : (low : ℕ) (rows : List Row) → After low rows → (j k : ℕ) → j < k → k < length rows
+      → (get_or rows j empty_row).id < (get_or rows k empty_row).id
   unfolding After
   after_ascends low [] a j k l h = absurd (omega arith)
   after_ascends low (r ∷ rows) a j zero l h = absurd (omega arith)
@@ -107,7 +109,8 @@ module _ (form : CardForm) where
       ∙ rw (eq-eqb _ close_size (close_size_lem n), eq-eqb n n refl)
 
   -- the rows of a card stand in front of it and end closed
-  reads_card : (rows : List Row) → InOrder form rows → rows_in_front form (card_of form rows) ≡ record { rows = rows; ends = closed; rest = close (length rows) }
+  reads_card : (rows : List Row) → InOrder form rows
+      → rows_in_front form (card_of form rows) ≡ record { rows = rows; ends = closed; rest = close (length rows) }
   reads_card rows o =
       let f = o.few in
       let z : 0 + length rows ≡ length rows = omega arith in
@@ -189,7 +192,8 @@ module _ (form : CardForm) where
       rw (front_step form (suc left) low n s)
       (good_step (suc left) low n s
       (λ id mark received sent size l g. rw (on_more form)
-      (good_onto left low n id mark received sent size s _ l g (good left (suc id) (suc n) (drop (key_at form + size) s) (bytes_drop (key_at form + size) s h))))
+      (good_onto left low n id mark received sent size s _ l g
+      (good left (suc id) (suc n) (drop (key_at form + size) s) (bytes_drop (key_at form + size) s h))))
       (front_of form s) (front_good form s h))
 
 pub front_says : FrontSays

@@ -97,7 +97,7 @@ module _ (form : CardForm) (r : Row) (t : List ℕ) (f : RowFits form r) where
       let f₁ = number_of s 0 length_size (key_at form - length_size + length r.key) _ (row_fields_lem form r t) (omega arith) in
       let f₂ = number_of s kind_at kind_size (row_kind form) _ f₁.1 (kind_fits form) in
       let f₃ = number_of s body_at id_size r.id _ f₂.1 f.id_fits in
-      let f₄ = mark_of form s r.mark _ f₃.1 (mark_byte r.mark r.received f.mark_fits) f.mark_held in
+      let f₄ = mark_of form s r.mark _ f₃.1 (mark_byte r.mark r.received f.mark_fits_lem) f.mark_held in
       let f₅ = number_of s (received_at form) counter_size r.received _ f₄.1 f.received_fits in
       let f₆ = number_of s (sent_at form) counter_size r.sent _ f₅.1 f.sent_fits in
       record {
@@ -120,7 +120,7 @@ module _ (form : CardForm) (r : Row) (t : List ℕ) (f : RowFits form r) where
       let from = f.key_from in
       let to = f.key_to in
       let size = key_at form - length_size + length r.key in
-      let is = (mark_fits_says r.mark r.received).1 f.mark_fits in
+      let is = (mark_fits_says r.mark r.received).1 f.mark_fits_lem in
       sym (front_row form s 0 size (sym q.size) (omega arith) (omega arith) (row_kind form) (sym q.kind) refl _
       (row_there form s 0 size (omega arith) (omega arith) r.mark r.received (received_at form) (sym q.mark) (sym (zero-add _)) (sym q.received)
       true (sym is) refl
@@ -184,7 +184,8 @@ module _ (form : CardForm) (s : List ℕ) (h : Bytes s) (h₀ : body_at ≤ leng
       (size_in s - (key_at form - length_size))
   good_row k from to m =
       let n = size_in s - (key_at form - length_size) in
-      let r = row_front form s (little_at s body_at id_size) (mark_in form s) (little_at s (received_at form) counter_size) (little_at s (sent_at form) counter_size) n in
+      let r = row_front form s (little_at s body_at id_size) (mark_in form s)
+      (little_at s (received_at form) counter_size) (little_at s (sent_at form) counter_size) n in
       let long : key_at form + n ≤ length s = omega arith in
       let kl : length r.key ≡ n = length-take-le n (drop (key_at form) s) (rw length-drop (omega arith)) in
       let z : size_in s ≡ key_at form - length_size + length r.key = omega arith in

@@ -1,4 +1,4 @@
--- The slots of rows in the key store: each has `slotSize` bytes, and row k's stands at `slotSize * k`.
+-- The slots of rows in the key store: each has `slot_size` bytes, and row k's stands at `slot_size * k`.
 use mathlib.Core.Path.{◌≡◌, refl, sym, ap, ◌∙◌}
 use mathlib.Core.List.{List, [], ◌∷◌, ◌++◌}
 use Prim.Native.Nat.{ℕ, zero, suc, ◌+◌, ◌*◌, ◌≤◌, ◌<◌}

@@ -1,5 +1,5 @@
 -- Whether the record in front wants more bytes, by its length field: each case at a place of a card as the code tests it, and what it says of the record
--- in front. What a record reads as that wants none does not depend on what follows it. The only law file that unfolds `recordLength` and `wants`.
+-- in front. What a record reads as that wants none does not depend on what follows it. The only law file that unfolds `record_length` and `wants`.
 use mathlib.Core.Path.{◌≡◌, refl, sym, ap, ap₂, ◌∙◌}
 use mathlib.Core.Logic.{◌≢◌}
 use mathlib.Core.Bool.{Bool, true, false, cond, ◌&&◌, ◌||◌, true≢false}

@@ -1,7 +1,7 @@
--- What is written: a book's rows, a card from a row on, and its size in either form. No other law unfolds `rows_from`, `rows_of` and `sizeTo`.
+-- What is written: a book's rows, a card from a row on, and its size in either form. No other law unfolds `rows_from`, `rows_of` and `size_to`.
 use mathlib.Core.Path.{◌≡◌, refl, sym, ap, ap₂, ◌∙◌}
 use mathlib.Core.List.{List, [], ◌∷◌, ◌++◌}
-use Prim.Native.Nat.{ℕ, zero, suc, ◌+◌, ◌-◌, ◌*◌, ◌≤◌, ◌<◌}
+use Prim.Native.Nat.{ℕ, zero, suc, ◌+◌, ◌*◌, ◌≤◌, ◌<◌}
 use native.Mathlib.Nat.{add-zero, zero-add, mul-suc}
 use native.Mathlib.Numerals.{add-one}
 use native.Mathlib.Omega.{arith}

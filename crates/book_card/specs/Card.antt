@@ -1,5 +1,5 @@
 -- The card: the bytes of a book's rows in a form, and which rows have a card (docs/RULES.md, 'The card').
--- A byte string is a card exactly when it is `cardOf` of a form and of rows that are `InOrder` for it; specs/Laws.antt states that the reader agrees.
+-- A byte string is a card exactly when it is `card_of` of a form and of rows that are `InOrder` for it; specs/Laws.antt states that the reader agrees.
 use Rattle.std.specs.Prelude.{ℕ, ◌+◌, ◌^◌, ◌≤◌, ◌<◌, ◌≡◌, List, [], ◌∷◌, ◌++◌, length, get_or}
 use Rattle.octets.specs.Bytes.{Bytes}
 use Rattle.octets.specs.Numbers.{le}
@@ -48,7 +48,7 @@ abbrev pub Held : CardForm → ℕ → Type 0
 Held Old mark = mark ≡ heard
 Held New mark = Unit {0}
 
--- a row whose fields fit their places in a form, with a mark that goes with its received counter and a key of 1 to `slotSize` bytes
+-- a row whose fields fit their places in a form, with a mark that goes with its received counter and a key of 1 to `slot_size` bytes
 pub record RowFits (form : CardForm) (r : Row) : Type 0 where
   pub id_fits : r.id < 2 ^ 32
   pub mark_fits_lem : MarkFits r.mark r.received

@@ -1,6 +1,6 @@
 -- Reading a card into a lent book: the answer, and every lent list afterwards (docs/RULES.md, 'The card').
 use Rattle.std.specs.Prelude.{cond, ◌&&◌, List, [], ◌∷◌, ◌++◌, map, ℕ, ◌*◌, leb, ltb, length, set}
-use Rattle.std.proofs.Math.Option.{Option, none, some, get_or}
+use Rattle.std.proofs.Math.Option.{Option, none, some, get_or as value_or}
 use Rattle.octets.specs.Bytes.{written, filled}
 use Rattle.refusal.specs.Number.{number_of, done}
 use Rattle.refusal.specs.declared.Refusal.TheVariants.{UnsoundBook, MalformedCard, NoRoomForRows}
@@ -55,7 +55,7 @@ read_of b card = cond (sized b) (read_as (length b.ids) (read_card card)) (Refus
 
 -- the rows of a card; none where it is malformed
 unfoldable pub rows_in : List ℕ → List Row
-rows_in card = get_or (read_card card) []
+rows_in card = value_or (read_card card) []
 
 -- the lent book afterwards, by the answer: a refusal changes nothing
 abbrev pub read_by : Book → List ℕ → ReadAnswer → Book

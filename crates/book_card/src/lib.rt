@@ -1,6 +1,8 @@
 // The card on which a key book is stored: reading it into a lent book (`reading`, over `reader`), writing a book's card (`writing`), and moving a card
 // to a form (`moving`); a record is written in one place (`records`), and what is wrong with one is told in another (`faults`). docs/RULES.md, 'The card'.
 // Not here: opening and reading files, what a loaded book then accepts (delayed_auth), and what is kept of a damaged card (card_salvage).
+#![tactic(auto)]
+
 mod faults;
 mod layout;
 mod moving;
@@ -19,7 +21,7 @@ use refusal::Refusal;
 pub use writing::card_write;
 
 // The form of a card's rows.
-#[derive(Drop)]
+#[derive(Clone, Copy)]
 pub enum CardForm {
     // Without marks: every row is heard.
     Old,
@@ -28,7 +30,7 @@ pub enum CardForm {
 }
 
 // The record at a place of a card whose rows have a form.
-#[derive(Drop)]
+#[derive(Clone, Copy)]
 pub enum Front {
     // No whole record, no row of the form and no close, a length that is not of its kind, or a mark that does not go with its counter.
     Broken,
@@ -45,7 +47,7 @@ pub enum Front {
 }
 
 // The record at a place of a card, whatever form the other rows have.
-#[derive(Drop)]
+#[derive(Clone, Copy)]
 pub enum Record {
     // No whole record: its length field is cut, counts less than a kind takes, or passes the end.
     Lost,
@@ -69,7 +71,7 @@ pub enum Record {
 }
 
 // Why a whole record is neither a row nor a close: the first that applies.
-#[derive(Drop)]
+#[derive(Clone, Copy)]
 pub enum Fault {
     // The kind is neither a row's nor the close's.
     UnknownKind,
@@ -82,7 +84,7 @@ pub enum Fault {
 }
 
 // What the first pass over a card finds.
-#[derive(Drop)]
+#[derive(Clone, Copy)]
 enum Counted {
     Malformed,
     // A card of so many rows.
@@ -90,7 +92,7 @@ enum Counted {
 }
 
 // The answer of `card_read`.
-#[derive(Drop)]
+#[derive(Clone, Copy)]
 pub enum ReadAnswer {
     // UnsoundBook where the lent sizes disagree or there is room for too many rows, MalformedCard, NoRoomForRows; nothing lent is changed.
     Refused(Refusal),
@@ -99,7 +101,7 @@ pub enum ReadAnswer {
 }
 
 // The answer of `card_write` and of `card_move`.
-#[derive(Drop)]
+#[derive(Clone, Copy)]
 pub enum WriteAnswer {
     // Writing: UnsoundBook, NoRoomForCard. Moving: MalformedCard, NoRoomForCard, RowNotHeard. The room is not changed.
     Refused(Refusal),
