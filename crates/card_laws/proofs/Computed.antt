@@ -12,9 +12,9 @@ use Rattle.book_card.specs.Moving.{all_heard, holds, move_of, room_moved}
 use Rattle.card_laws.specs.Examples.{Example1, MarkedCards, OrderedBytes, FrontExample, Example2}
 
 pub example_1 : Example1
-unfolding all_below sized ascending key_sizes mark_fits marks_fit sound key_fits key_in le value little_at mark_size row_kind record_of row_record close row_records
-    card_of form_in mark_in front_of front_from rows_in_front read_card written filled slots_of loaded read_of rows_in read_book rows_from rows_of write_of room_after
-    all_heard holds move_of room_moved
+unfolding all_below sized ascending key_sizes mark_fits marks_fit sound key_fits key_in le value little_at mark_size row_kind record_of row_record close
+    row_records card_of form_in mark_in front_of front_from rows_in_front read_card written filled slots_of loaded read_of rows_in read_book rows_from rows_of
+    write_of room_after all_heard holds move_of room_moved
 example_1 = record {
   old_card = refl;
   old_size = refl;
@@ -29,8 +29,8 @@ example_1 = record {
 }
 
 pub marked_cards : MarkedCards
-unfolding mark_fits le value little_at mark_size row_kind record_of row_record close row_records card_of form_in mark_in front_of front_from rows_in_front read_card
-    all_heard holds move_of
+unfolding mark_fits le value little_at mark_size row_kind record_of row_record close row_records card_of form_in mark_in front_of front_from rows_in_front
+    read_card all_heard holds move_of
 marked_cards = record {
   not_heard_lem = refl;
   received_before = refl;
@@ -43,7 +43,8 @@ marked_cards = record {
 }
 
 pub ordered_bytes : OrderedBytes
-unfolding mark_fits le value little_at mark_size row_kind record_of row_record close row_records card_of form_in mark_in front_of front_from rows_in_front read_card
+unfolding mark_fits le value little_at mark_size row_kind record_of row_record close row_records card_of form_in mark_in front_of front_from rows_in_front
+    read_card
 ordered_bytes = record { old_card = refl; old_rows = refl; new_card = refl; new_rows = refl }
 
 pub front_example : FrontExample
@@ -51,8 +52,8 @@ unfolding mark_fits value little_at mark_size row_kind mark_in front_of front_fr
 front_example = record { whole = refl; cut = refl; one_byte_more = λ x. refl; other_form = refl; id_again = refl }
 
 pub example_2 : Example2
-unfolding sized le value little_at mark_size row_kind record_of close row_records card_of form_in front_of front_from rows_in_front read_card read_of rows_in all_heard holds
-    move_of room_moved
+unfolding sized le value little_at mark_size row_kind record_of close row_records card_of form_in front_of front_from rows_in_front read_card read_of rows_in
+    all_heard holds move_of room_moved
 example_2 = record {
   no_rows = refl;
   no_rows_read = refl;

@@ -63,7 +63,7 @@ holds_heard New rows e o = absurd (let z : ◌≡◌ {A = ℕ} 0 1 = cc in omega
 pub not_held : {form : CardForm} (wanted : CardForm) (rows : List Row) → InOrder form rows → holds wanted rows ≡ false
     → (wanted ≡ Old) × ((k : ℕ) × (k < length rows) × ((get_or rows k empty_row).mark ≡ not_heard))
 unfolding holds
-not_held Old rows o e = (refl, unheard_row rows (λ k h. (o.fit k h).mark_fits.known) e)
+not_held Old rows o e = (refl, unheard_row rows (λ k h. (o.fit k h).mark_fits_lem.known) e)
 not_held New rows o e = absurd (true≢false e)
 
 -- rows in order for one form are so for another that holds them
@@ -75,7 +75,7 @@ module _ {form : CardForm} (rows : List Row) (o : InOrder form rows) where
         let f = o.fit k h in
         record {
           id_fits = f.id_fits;
-          mark_fits_lem = f.mark_fits;
+          mark_fits_lem = f.mark_fits_lem;
           mark_held = held k h;
           received_fits = f.received_fits;
           sent_fits = f.sent_fits;

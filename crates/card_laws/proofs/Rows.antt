@@ -27,7 +27,7 @@ rows_in_order b l s =
         let bytes = bytes_take (get_or b.lengths k 0) _ (bytes_drop (slot_size * k) b.store (bytes_of b.store l.byte_fits)) in
         record {
           id_fits = l.id_fits k;
-          mark_fits_lem = s.marks_fit k h;
+          mark_fits_lem = s.marks_fit_lem k h;
           mark_held = tt;
           received_fits = l.received_fits k;
           sent_fits = l.sent_fits k;

@@ -49,7 +49,7 @@ module _ {form : CardForm} (b : Book) (z : Sized b) (rows : List Row) (o : InOrd
         ids_ascend = λ j k m h. rw ((r.row j (omega arith)).id, (r.row k (omega arith)).id) (o.ascend j k m (omega arith));
         keys_from = λ k h. rw (r.row k (omega arith)).key_size_lem (o.fit k (omega arith)).key_from;
         keys_to = λ k h. rw (r.row k (omega arith)).key_size_lem (o.fit k (omega arith)).key_to;
-        marks_fit_lem = λ k h. rw ((r.row k (omega arith)).mark, (r.row k (omega arith)).received) (o.fit k (omega arith)).mark_fits;
+        marks_fit_lem = λ k h. rw ((r.row k (omega arith)).mark, (r.row k (omega arith)).received) (o.fit k (omega arith)).mark_fits_lem;
       }
 
   loaded_row : (k : ℕ) → k < now.rows → row_at now k ≡ get_or rows k empty_row
@@ -79,7 +79,8 @@ write_then_read b l s room h into z r =
     ap (take (length card)) (sym w.1) ∙ take_at card (drop (length card) room) (length card) refl in
     let n = rows_count b in
     let q : length (rows_of b) ≤ length into.ids = omega arith in
-    let g = case_read into card (read z (rows_of b) ((card_says card (card_bytes New (rows_of b) o) (rows_of b)).1 (New, record { order = o; bytes = refl })) q) in
+    let g = case_read into card (read z (rows_of b)
+    ((card_says card (card_bytes New (rows_of b) o) (rows_of b)).1 (New, record { order = o; bytes = refl })) q) in
     record {
       size = sym w.0;
       answer = ap (read_of into) e ∙ sym g.0 ∙ ap Rows n;
