@@ -13,7 +13,7 @@ use lib.Seq.{drop-append-le, drop-append-add, length-take-le, take_all, take-add
 use Rattle.octets.specs.Bytes.{filled}
 use Rattle.octets.proofs.Filled.{length_filled}
 use Rattle.key_book.specs.Limits.{rows_most}
-use Rattle.key_book.specs.Book.{Book, Sized}
+use Rattle.key_book.specs.Book.{Book}
 use Rattle.book_card.specs.declared.CardForm.{CardForm}
 use Rattle.book_card.specs.Layout.{record_most}
 use Rattle.book_card.specs.Reader.{wants}
@@ -84,13 +84,11 @@ pub record Told
 pub told_is : (form : CardForm) (known formed : RowsForm) (tail piece window : List ℕ) (kept taken : ℕ) (b c : Book) (before least : ℕ) (p : Pass)
     → kept ≤ length tail → taken ≡ window_of (length piece) → window ≡ filled window_size (take kept tail ++ take taken piece)
     → before ≤ rows_most → form ≡ form_by (take (kept + taken) window) known → formed ≡ form_after known form before p.rows
-    → (p.at ≤ length (take (kept + taken) window))
-    × (((before ≤ p.rows) × (p.rows ≤ rows_most))
-    × ((p.phase ≡ Reading → p.at < kept → wants (drop p.at (take (kept + taken) window)) ≡ true)
-    × (Sized c
-    × (outcome c p.rows (onward form p (take (kept + taken) window)) ≡ outcome b before (run form least before (take (kept + taken) window))))))
+    → p.at ≤ length (take (kept + taken) window) → (before ≤ p.rows) × (p.rows ≤ rows_most)
+    → (p.phase ≡ Reading → p.at < kept → wants (drop p.at (take (kept + taken) window)) ≡ true)
+    → outcome c p.rows (onward form p (take (kept + taken) window)) ≡ outcome b before (run form least before (take (kept + taken) window))
     → Told form known formed (take kept tail) piece (take (kept + taken) window) kept taken b c before least p
-told_is form known formed tail piece window kept taken b c before least p h et ew few eform eformed e =
+told_is form known formed tail piece window kept taken b c before least p h et ew few eform eformed inside rows stops goes =
     let k : length (take kept tail) ≡ kept = length-take-le kept tail h in
     let l = window_of_fits (length piece) in
     let n : length (take taken piece) ≡ taken = length-take-le taken piece (omega arith) in
@@ -101,11 +99,11 @@ told_is form known formed tail piece window kept taken b c before least p h et e
       few = few;
       eform = eform;
       eformed = eformed;
-      inside = e.0;
-      risen = e.1.0.0;
-      counted = e.1.0.1;
-      stops = e.1.1.0;
-      goes = e.1.1.1.1;
+      inside = inside;
+      risen = rows.0;
+      counted = rows.1;
+      stops = stops;
+      goes = goes;
     }
 
 module _

@@ -13,8 +13,8 @@ use Rattle.card_pieces.specs.Laws.{fed_all, spare_all}
 use Rattle.card_pieces.specs.Examples.{PiecesExample}
 
 pub pieces_example : PiecesExample
-unfolding sized mark_fits written filled value little_at mark_size row_kind form_in mark_in front_of record_length wants front_from low_after set_row put_row run run_from
-    put_rows outcome state_with fresh within form_by form_after settled reads_on state_fed spare_fed feed_of feed_spare has_ended finish_of
+unfolding sized mark_fits written filled value little_at mark_size row_kind form_in mark_in front_of record_length wants front_from low_after set_row put_row
+    run run_from put_rows outcome state_with fresh within form_by form_after settled reads_on state_fed spare_fed feed_of feed_spare has_ended finish_of
     copied finish_book fed_all spare_all
 pieces_example = record {
   cut_kept = refl;

@@ -1,4 +1,4 @@
--- The ends of `finish`, each as one case: the answer and the book afterwards where this is so. The only law file that unfolds `finishOf` and `finishBook`.
+-- The ends of `finish`, each as one case: the answer and the book afterwards where this is so. The only law file that unfolds `finish_of` and `finish_book`.
 use mathlib.Core.Path.{◌≡◌, refl, sym, ap, ◌∙◌}
 use mathlib.Core.Bool.{Bool, true, false, not, cond, ◌&&◌, and-eq-true_iff, true≢false}
 use mathlib.Mathlib.Data.Bool.Basic.{eq-false-eq-not-eq-true}

@@ -1,17 +1,15 @@
 -- Reading records one after the other: what comes next, what each turn of `read_rows` keeps, and each of its ends.
 use mathlib.Core.Path.{◌≡◌, refl, sym, ap, ap₂, ◌∙◌}
-use mathlib.Core.Logic.{◌≢◌, ⊎_elim}
-use denote.Enum.Declared.{tag_of}
-use types.Run.{OneOf}
+use mathlib.Core.Logic.{◌≢◌}
 use mathlib.Core.Bool.{Bool, true, false, cond}
-use mathlib.Core.List.{List, [], ◌∷◌}
-use Prim.Native.Nat.{ℕ, suc, ◌+◌, ◌-◌, ◌*◌, ◌≤◌, ◌<◌}
+use mathlib.Core.List.{List, []}
+use Prim.Native.Nat.{ℕ, suc, ◌+◌, ◌-◌, ◌≤◌, ◌<◌}
 use native.Mathlib.Omega.{arith}
 use borrow.Author.Tests.{eq-eqb, ne_eqb, lt-ltb, le-ltb, le-leb, lt-leb, leb-false, leb-true}
 use lib.Dec.{leb, ltb, eqb}
 use lib.ListN.{length, take, drop, length-drop}
 use lib.Seq.{drop-drop, drop-length}
-use Rattle.key_book.specs.Limits.{rows_most, slot_size}
+use Rattle.key_book.specs.Limits.{rows_most}
 use Rattle.key_book.specs.Book.{Book, Sized}
 use Rattle.book_card.specs.declared.CardForm.{CardForm}
 use Rattle.book_card.specs.declared.Front.{Front}
@@ -27,7 +25,6 @@ use Rattle.card_pieces.specs.declared.Next.{Next}
 use Rattle.card_pieces.specs.declared.Next.TheVariants.{Cut, Close, Fault as NoRecord, Row as RowNext}
 use Rattle.card_pieces.specs.declared.Pass.{Pass}
 use Rattle.card_pieces.specs.Runs.{Run, stopped_run, run, put_rows, Outcome, outcome, next_by, next_of, stop_by, onward}
-use Rattle.card_pieces.specs.contracts.Next.{the_type}
 use Rattle.card_pieces.proofs.Runs.{fault_run, onto_run, run_to, run_is, go_run, step_run, run_on}
 use Rattle.card_pieces.proofs.Spare.{put_kept}
 
@@ -142,14 +139,12 @@ pub record Passing (form : CardForm) (s : List ℕ) (before least : ℕ) (b c : 
   pub inside : at ≤ length s
   pub risen : before ≤ rows
   pub few : rows ≤ rows_most
-  pub sized_before : Sized b
   pub sizes : Sized c
-  pub same : length c.ids ≡ length b.ids
   pub goes : outcome c rows (run form low rows (drop at s)) ≡ outcome b before (run form least before s)
 
 pub passing_start : (form : CardForm) (s : List ℕ) (before least : ℕ) (b : Book) → before ≤ rows_most → Sized b
     → Passing form s before least b b 0 before least
-passing_start form s before least b h z = record { inside = omega arith; risen = omega arith; few = h; sized_before = z; sizes = z; same = refl; goes = refl }
+passing_start form s before least b h z = record { inside = omega arith; risen = omega arith; few = h; sizes = z; goes = refl }
 
 outcome_onto : (c : Book) (n : ℕ) (r : Row) (q : Run) → outcome (put_row c n r) (suc n) q ≡ outcome c n (onto_run r q)
 unfolding outcome put_rows
@@ -210,17 +205,12 @@ module _ {form : CardForm} {s : List ℕ} {before least : ℕ} {b c : Book} {at 
       × (((before ≤ r.rows) × (r.rows ≤ rows_most))
       × ((r.phase ≡ Reading → r.at < until → wants (drop r.at s) ≡ true) × (Sized c × (outcome c r.rows (onward form r s) ≡ whole))))
 
-  pub ends_stop : (until : ℕ) → until ≤ length s → (x : Next) → x ≡ next_of form low rows rest → OneOf (0 ∷ 1 ∷ 2 ∷ []) (tag_of the_type x)
-      → (r : Pass) → r ≡ stop_by at (length s) rows low x → EndsAs until r
+  pub ends_stop : (until : ℕ) → until ≤ length s → (x : Next) → x ≡ next_of form low rows rest
+      → ((id mark received sent size : ℕ) → x ≡ RowNext id mark received sent size → ⊥) → (r : Pass) → r ≡ stop_by at (length s) rows low x → EndsAs until r
   ends_stop until h Cut e k r er = rw er (ends_cut until e)
   ends_stop until h Close e k r er = rw er (ends_close until h e)
   ends_stop until h NoRecord e k r er = rw er (ends_fault until h e)
-  ends_stop until h (RowNext id mark received sent size) e k r er = absurd (no_row k)
-    where
-      no_row : OneOf (0 ∷ 1 ∷ 2 ∷ []) 3 → ⊥
-      no_row k =
-          ⊎_elim (λ a. let z : ◌≡◌ {A = ℕ} 3 0 = a in omega arith)
-          (⊎_elim (λ a. let z : ◌≡◌ {A = ℕ} 3 1 = a in omega arith) (λ a. let z : ◌≡◌ {A = ℕ} 3 2 = a in omega arith)) k
+  ends_stop until h (RowNext id mark received sent size) e k r er = absurd (k id mark received sent size refl)
 
   module _ (id mark received sent size : ℕ) (e : RowNext id mark received sent size ≡ next_of form low rows rest) where
     row_says : NextRow form low rows rest id mark received sent size
@@ -260,29 +250,8 @@ module _ {form : CardForm} {s : List ℕ} {before least : ℕ} {b c : Book} {at 
           inside = omega arith;
           risen = omega (arith, p.risen);
           few = omega arith;
-          sized_before = p.sized_before;
           sizes = rw dr (kept.sizes_kept p.sizes);
-          same = ap (λ (x : Book). length x.ids) dr ∙ kept.ids_kept ∙ p.same;
           goes = ap₂ (λ (x : Book) (y : List ℕ). outcome x (rows + 1) (run form (id + 1) (rows + 1) y)) dr same_rest
               ∙ ap₂ (λ (x y : ℕ). outcome (put_row c rows r) x (run form y x (drop (key_at form + size) rest))) n₂ n₃
               ∙ outcome_onto c rows r q ∙ ap (outcome c rows) (sym says.goes) ∙ p.goes;
         }
-
-  -- the six lists keep their lengths
-  pub long_ids : length c.ids ≡ length b.ids
-  long_ids = p.same
-
-  pub long_lengths : length c.lengths ≡ length b.lengths
-  long_lengths = p.sizes.lengths_agree ∙ p.same ∙ sym p.sized_before.lengths_agree
-
-  pub long_store : length c.store ≡ length b.store
-  long_store = p.sizes.store_agrees ∙ ap (λ (n : ℕ). slot_size * n) p.same ∙ sym p.sized_before.store_agrees
-
-  pub long_marks : length c.marks ≡ length b.marks
-  long_marks = p.sizes.marks_agree ∙ p.same ∙ sym p.sized_before.marks_agree
-
-  pub long_received : length c.received ≡ length b.received
-  long_received = p.sizes.received_agree ∙ p.same ∙ sym p.sized_before.received_agree
-
-  pub long_sent : length c.sent ≡ length b.sent
-  long_sent = p.sizes.sent_agree ∙ p.same ∙ sym p.sized_before.sent_agree

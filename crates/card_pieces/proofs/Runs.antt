@@ -69,7 +69,8 @@ module _ (form : CardForm) where
         → run_of low (go_on form left s (row_front form s id mark received sent size) (suc id) (suc n) t)
         ≡ go_run left low (row_front form s id mark received sent size) (suc id) (suc n) t
     unfolding go_run run_to low_after
-    go_step zero id mark received sent size t w = ap (run_of low) (on_none form s (row_front form s id mark received sent size) (suc id) (suc n) t) ∙ ends_fault w
+    go_step zero id mark received sent size t w =
+        ap (run_of low) (on_none form s (row_front form s id mark received sent size) (suc id) (suc n) t) ∙ ends_fault w
     go_step (suc left) id mark received sent size t w =
         ap (run_of low) (on_more form left s (row_front form s id mark received sent size) (suc id) (suc n) t)
 

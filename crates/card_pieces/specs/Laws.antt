@@ -120,7 +120,7 @@ overlaid b rows =
     (written 0 (map (λ (r : Row). r.sent) rows) b.sent)
     b.rows
 
--- the good rows of a byte string: of all rows in order, of one form, whose records it begins with, the most. (There are at most `rowsMost` in order, and a
+-- the good rows of a byte string: of all rows in order, of one form, whose records it begins with, the most. (There are at most `rows_most` in order, and a
 -- close, being no row, ends them.)
 pub record GoodRows (s : List ℕ) (rows : List Row) : Type 0 where
   pub form : CardForm

@@ -1,5 +1,5 @@
 -- Reading on from a known place of a card: what record comes next, the rows in front of bytes, and how reading then stands (docs/RULES.md, 'The card in
--- pieces'). The rows are those of book_card's `frontFrom`, whose end is a fault also where a record is only cut; here these are told apart.
+-- pieces'). The rows are those of book_card's `front_from`, whose end is a fault also where a record is only cut; here these are told apart.
 use Rattle.std.specs.Prelude.{Bool, true, false, cond, List, [], ◌∷◌, ℕ, suc, ◌+◌, ◌-◌, leb, ltb, eqb, length, drop}
 use Rattle.key_book.specs.Limits.{rows_most}
 use Rattle.key_book.specs.Book.{Book}

@@ -1,6 +1,8 @@
 // Reading a card in pieces, as it arrives (docs/RULES.md, 'The card in pieces'): a fresh state (`begin`), a piece (`feed`, in `pieces`) and the end
 // (`finish`, in `ending`). Pieces fill spare rows, lent beside the book; the end copies them over to it.
 // Not here: what a record is, and how a row is set (book_card).
+#![tactic(auto)]
+
 mod ending;
 mod numbers;
 mod pieces;
@@ -15,7 +17,7 @@ pub use pieces::{begin, feed};
 pub const TAIL_MOST: usize = RECORD_MOST - 1;
 
 // What is known of the form of a card's rows.
-#[derive(Drop)]
+#[derive(Clone, Copy)]
 pub enum RowsForm {
     // No row was read yet.
     Unknown,
@@ -24,7 +26,7 @@ pub enum RowsForm {
 }
 
 // Where reading stands.
-#[derive(Drop)]
+#[derive(Clone, Copy)]
 pub enum Phase {
     // Records may follow.
     Reading,
@@ -35,7 +37,7 @@ pub enum Phase {
 }
 
 // The reader's state. Any value of it may be handed in: of the tail the first `kept` bytes count.
-#[derive(Drop)]
+#[derive(Clone, Copy)]
 pub struct Reader {
     // What is left of a cut record.
     pub tail: [u8; TAIL_MOST],
@@ -49,14 +51,14 @@ pub struct Reader {
 }
 
 // The answer of `feed`: the number, 0 or 1, and the state after the piece; with 1 it is the one that was handed in.
-#[derive(Drop)]
+#[derive(Clone, Copy)]
 pub struct Fed {
     pub number: u8,
     pub state: Reader,
 }
 
 // What comes next among the bytes of a card.
-#[derive(Drop)]
+#[derive(Clone, Copy)]
 enum Next {
     // A record that wants more bytes.
     Cut,
@@ -75,7 +77,7 @@ enum Next {
 }
 
 // How far reading came among some bytes: up to `at`, with so many rows and this least id; while it goes on, the phase is Reading.
-#[derive(Drop)]
+#[derive(Clone, Copy)]
 struct Pass {
     at: usize,
     rows: usize,

@@ -2,7 +2,7 @@
 //
 // A record that lies whole in a piece is read from the piece. The bytes of a cut one are kept in the state's tail; with the next piece they stand in a
 // window with the piece's first bytes behind them, the records that begin in the tail are read there, and the piece is read on behind these.
-ghost use Rattle.std.specs.Prelude.{◌≡◌, [], ◌++◌, ◌+◌, ◌≤◌, length, take};
+ghost use Rattle.std.specs.Prelude.{◌≡◌, [], ◌++◌, ◌≤◌, length, take};
 ghost use Rattle.octets.specs.Bytes.{filled};
 ghost use Rattle.key_book.specs.Limits.{rows_most};
 ghost use Rattle.key_book.specs.Book.{book_of, Sized};
