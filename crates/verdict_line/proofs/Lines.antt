@@ -1,5 +1,5 @@
--- The whole line: its length, how it is made of its pieces, and where it fits. The laws of `acceptedLine`, `wordedLine`, `numberedLine`, `sizeIn` and
--- `outAfter`.
+-- The whole line: its length, how it is made of its pieces, and where it fits. The laws of `accepted_line`, `worded_line`, `numbered_line`, `size_in` and
+-- `out_after`.
 use mathlib.Core.Path.{◌≡◌, refl, sym, ap, ap₂, ◌∙◌}
 use mathlib.Core.Bool.{Bool, true, false, cond}
 use mathlib.Core.List.{List}

@@ -15,7 +15,7 @@ pub record DecimalSays : Type 0 where
 abbrev pub SizeWithin : Type 0
 SizeWithin = (line : List ℕ) (room : ℕ) → size_in line room ≤ room
 
--- no line of a row and a counter of 64 bits is longer than `lineMost`, nor with a number of 64 bits in front than `numberedMost`; and one has as many
+-- no line of a row and a counter of 64 bits is longer than `line_most`, nor with a number of 64 bits in front than `numbered_most`; and one has as many
 -- bytes
 pub record LongestLine : Type 0 where
   pub accepted_most : (row counter : ℕ) → row < 2 ^ 64 → counter < 2 ^ 64 → length (line_of (Accepted row counter)) ≤ line_most

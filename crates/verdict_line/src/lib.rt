@@ -9,6 +9,8 @@
 // Those of a recording's records have the record's number and a space in front. Numbers are decimal, without leading zeros.
 // The writers of bytes and digits (`add_bytes`, `add_decimal`) are also for other crates' lines: comparison makes its own with them.
 // Not here: reading the files and judging what they hold.
+#![tactic(auto)]
+
 ghost use Rattle.std.specs.Prelude.{◌≡◌, ◌+◌, ◌≤◌, length};
 ghost use Rattle.verdict_line.specs.Decimal.{decimal};
 ghost use Rattle.verdict_line.specs.Line.{line_most, numbered_most, word_most, accepted_line, worded_line, line_of, numbered_line};
@@ -29,7 +31,7 @@ const DIGITS_MOST: usize = 20;
 pub const DIGIT_ZERO: u8 = 48;
 
 // What a line says.
-#[derive(Drop)]
+#[derive(Clone, Copy)]
 pub enum Line {
     // The message is accepted: its row and its counter.
     Accepted(usize, u64),
