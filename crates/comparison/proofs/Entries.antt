@@ -1,4 +1,4 @@
--- The whole of a comparison: its lines from their pieces, and the ends of the entry. The laws of `textFor`, `compareOf` and `roomCompared`.
+-- The whole of a comparison: its lines from their pieces, and the ends of the entry. The laws of `text_for`, `compare_of` and `room_compared`.
 use mathlib.Core.Path.{◌≡◌, refl, sym, ap, ap₂, ◌∙◌, subst}
 use mathlib.Core.Bool.{Bool, true, false, cond}
 use Prim.Native.Nat.{ℕ, ◌+◌, ◌≤◌, ◌<◌}
@@ -62,8 +62,8 @@ module _ (first second : List ℕ) where
     text_length = ap length text_is ∙ simp length-append (omega arith)
 
     pub text_put : {out o₁ o₂ o₃ o₄ o₅ : List ℕ} {p₁ p₂ p₃ p₄ p₅ : ℕ} → length (text_for first second) ≤ length out
-        → PutAt out 0 field_lines o₁ p₁ → PutAt o₁ p₁ first_lines o₂ p₂ → PutAt o₂ p₂ second_lines o₃ p₃ → PutAt o₃ p₃ layout_lines o₄ p₄ → PutAt o₄ p₄ last o₅ p₅
-        → PutAt out 0 (text_for first second) o₅ p₅
+        → PutAt out 0 field_lines o₁ p₁ → PutAt o₁ p₁ first_lines o₂ p₂ → PutAt o₂ p₂ second_lines o₃ p₃ → PutAt o₃ p₃ layout_lines o₄ p₄
+        → PutAt o₄ p₄ last o₅ p₅ → PutAt out 0 (text_for first second) o₅ p₅
     text_put room s₁ s₂ s₃ s₄ s₅ =
         let l = text_length in
         let t₂ = put_next (omega arith) s₁ s₂ in

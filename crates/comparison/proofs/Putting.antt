@@ -23,7 +23,7 @@ use Rattle.comparison.proofs.Reading.{passing_parts}
 use Rattle.comparison.proofs.Walking.{At, Onward, from_options, not_broken, at_end_lem, at_pad, at_option}
 use Rattle.comparison.proofs.OptionLines.{lines_append, no_lines, put_nothing}
 
--- the laws of `optionsDiffering`
+-- the laws of `options_differing`
 module _ (side : Side) (before other : List Token) where
   options_none : options_differing side before [] other ≡ []
   unfolding options_differing

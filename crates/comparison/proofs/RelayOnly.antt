@@ -78,8 +78,8 @@ module _ {m n : List ℕ} {ts us : List Token} {rest : List ℕ} (p : Passing m 
   comes May options e may =
       let l = ap length e ∙ length-append header options in
       subst (May m) (ap (λ (h : List ℕ). h ++ options) header_comes ∙ sym e)
-      (may (omega (arith, header_size_lem q, q.short)) hops giaddr hops_size_lem (bytes_take 1 (drop 3 header) (bytes_drop 3 header header_bytes)) giaddr_size_lem
-      (bytes_take 4 (drop 24 header) (bytes_drop 24 header header_bytes)))
+      (may (omega (arith, header_size_lem q, q.short)) hops giaddr hops_size_lem (bytes_take 1 (drop 3 header) (bytes_drop 3 header header_bytes))
+      giaddr_size_lem (bytes_take 4 (drop 24 header) (bytes_drop 24 header header_bytes)))
 
   passes : Passes27 m
   passes = passing_27 m p

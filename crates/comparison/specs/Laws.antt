@@ -90,6 +90,6 @@ pub record RelayOnlySays : Type 0 where
   pub names : (first second : List ℕ) → Passes27 first → Passes27 second → relay_only (parts_of first) (parts_of second) ≡ true
       → (d : Difference) → Among d (differences_of (parts_of first) (parts_of second)) → OfRelay d
 
--- the lines of any two messages that pass 2 to 7 fit a room of `comparisonMost` bytes
+-- the lines of any two messages that pass 2 to 7 fit a room of `comparison_most` bytes
 abbrev pub LinesFit : Type 0
 LinesFit = (first second : List ℕ) → Bytes first → Bytes second → Passes27 first → Passes27 second → length (text_for first second) ≤ comparison_most

@@ -1,6 +1,8 @@
 // Two messages side by side: what differs between them, line by line, and whether it is only what a relay may change. docs/RULES.md, 'Two messages side by
 // side'.
 // Not here: reading the messages from files (compare_messages), and how a word and a number are written (verdict_line).
+#![tactic(auto)]
+
 ghost use Rattle.std.specs.Prelude.{◌≡◌, ◌≤◌, length};
 ghost use Rattle.verdict_line.specs.Line.{PutAt};
 ghost use Rattle.dhcp_message.specs.Shape.{shape_of};
@@ -19,14 +21,14 @@ mod relay;
 pub const COMPARISON_MOST: usize = 18573;
 
 // Whose options are gone through, in their order.
-#[derive(Drop)]
+#[derive(Clone, Copy)]
 pub(crate) enum Side {
     First,
     Second,
 }
 
 // What a comparison gives.
-#[derive(Drop)]
+#[derive(Clone, Copy)]
 pub enum Compared {
     // A message is refused, or the lines are longer than the room.
     Refused(Refusal),

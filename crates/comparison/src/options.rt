@@ -1,5 +1,5 @@
 // The options, in the order of one message's, by the other's: each is found again by its code and its occurrence.
-ghost use Rattle.std.specs.Prelude.{[], ◌+◌, ◌-◌, ◌≤◌, ◌<◌, ◌^◌, suc, length};
+ghost use Rattle.std.specs.Prelude.{[], ◌+◌, ◌≤◌, ◌<◌, ◌^◌, suc, length};
 ghost use Rattle.verdict_line.specs.Line.{PutAt};
 ghost use Rattle.dhcp_message.specs.Message.{Passes27};
 ghost use Rattle.comparison.specs.Difference.{parts_of, body_at, said_of, options_differing, option_line, lines_of};
@@ -12,7 +12,7 @@ use dhcp_message::{HEADER_SIZE, Here, OPTION_HEAD, PAD_SIZE};
 const CODES: usize = 256;
 
 // The option of a code and an occurrence in a message: there is none, or it stands at an offset and takes so many bytes.
-#[derive(Drop)]
+#[derive(Clone, Copy)]
 pub(crate) enum Found {
     Absent,
     Stands { at: usize, size: usize },
@@ -73,7 +73,9 @@ fn put_said(
 ) -> usize
     requires before_bound { before < 2 ^ 63 }
     requires found_as { FoundAs other.now code before found }
-    requires other_in_bounds { at + length (lines_of (said_of side code (suc before) body.now (body_at code before (parts_of other.now).tokens))) ≤ length out.old }
+    requires other_in_bounds { at
+        + length (lines_of (said_of side code (suc before) body.now (body_at code before (parts_of other.now).tokens)))
+        ≤ length out.old }
     ensures { PutAt
         out.old
         at
@@ -108,7 +110,9 @@ pub(crate) fn put_options(
 ) -> usize
     requires passes27 { Passes27 message.now }
     requires passes27_2 { Passes27 other.now }
-    requires other_in_bounds { start + length (lines_of (options_differing side [] (parts_of message.now).tokens (parts_of other.now).tokens)) ≤ length out.old }
+    requires other_in_bounds { start
+        + length (lines_of (options_differing side [] (parts_of message.now).tokens (parts_of other.now).tokens))
+        ≤ length out.old }
     ensures { PutAt
         out.old
         start
