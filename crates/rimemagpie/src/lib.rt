@@ -5,8 +5,10 @@
 // written with 10 too.
 //
 // A slice is a pointer and a length to C. That these are right, and that what is lent doesn't overlap, is up to the caller.
+#![tactic(auto)]
+
 ghost use Rattle.std.specs.Prelude.{◌≡◌, length};
-ghost use Rattle.md5.specs.Entries.{md5_of};
+ghost use Rattle.md5_digest.specs.Entries.{md5_of};
 ghost use Rattle.hmac_md5.specs.Hmac.{hmac_of};
 ghost use Rattle.key_book.specs.Book.{book_of};
 ghost use Rattle.key_book.specs.Halving.{known_of, sought_number};
@@ -41,7 +43,7 @@ pub extern "C" fn rimemagpie_digest(message: &[u8], digest: &mut [u8; 16]) -> u8
     ensures number { result ≡ (md5_of message.now).number }
     ensures bytes { digest.new ≡ (md5_of message.now).digest }
 {
-    let finished = md5::md5(message);
+    let finished = md5_digest::md5(message);
     let bytes = finished.digest;
     *digest = bytes;
     finished.number
