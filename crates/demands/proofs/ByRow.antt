@@ -130,7 +130,8 @@ module _ (b₀ : Book) where
   channel (judge k m) = some (serves k)
 
   -- the channel of a check or a seal: the row of the secret that it names
-  pub check_channel : (m : List ℕ) (id : ℕ) (c : Channel) → named m ≡ some id → channel (check m) ≡ some c → (k : ℕ) × (c ≡ receives k) × (row_of b₀ id ≡ some k)
+  pub check_channel : (m : List ℕ) (id : ℕ) (c : Channel) → named m ≡ some id → channel (check m) ≡ some c → (k : ℕ) × (c ≡ receives k) ×
+      (row_of b₀ id ≡ some k)
   unfolding channel found
   check_channel m id c e f = map_of receives (row_of b₀ id) c (rw e at f)
 

@@ -5,8 +5,8 @@ use Rattle.octets.specs.Bytes.{written, filled, same_bytes}
 use Rattle.octets.specs.Numbers.{le, value, little_at, be, big_at}
 use Rattle.md5_block.specs.Word.{rotl, auxiliary, word_no, additive, rotations}
 use Rattle.md5_block.specs.Block.{step_with, step_at, steps, round, compress}
-use Rattle.md5.specs.Block.{load_to, load, blocks}
-use Rattle.md5.specs.Message.{md5, padded, padding, output}
+use Rattle.md5_digest.specs.Block.{load_to, load, blocks}
+use Rattle.md5_digest.specs.Message.{md5, padded, padding, output}
 use Rattle.hmac_md5.specs.Hmac.{masked, hmac}
 use Rattle.dhcp_message.specs.Options.{decode_at}
 use Rattle.dhcp_message.specs.Message.{checked_tokens, checked_of}
@@ -25,7 +25,9 @@ use Rattle.forcerenew.specs.Judging.{judge_of}
 
 unfoldable pub computing : ℕ
 unfolding rotl auxiliary word_no additive rotations step_with step_at steps round compress load_to load blocks md5 padded padding output masked hmac
-    written filled le value little_at be big_at decode_at checked_tokens checked_of said_by said_of named form_of image_of is_new all_below sized ascending key_sizes
-    mark_fits marks_fit sound place_from row_in key_fits key_in admitted_said admitted_form same_bytes judged_row judged_said check_of plan_row plan_form plan_of
+    written filled le value little_at be big_at decode_at checked_tokens checked_of said_by said_of named form_of image_of is_new all_below sized
+    ascending key_sizes
+    mark_fits marks_fit sound place_from row_in key_fits key_in admitted_said admitted_form same_bytes judged_row judged_said check_of plan_row
+    plan_form plan_of
     sealed_message seal_of shape_of message_type_of marks_known sound_rows server_at goes_with shown_at shown_of judge_of
 computing = 0

@@ -1,5 +1,5 @@
 -- Demand 1, proved: the entries' numbers, and what a refusal leaves, each from the file that shows it.
-use Rattle.md5.proofs.Promises.{refused_kept}
+use Rattle.md5_digest.proofs.Promises.{refused_kept}
 use Rattle.delayed_auth.specs.Check.{check_of}
 use Rattle.delayed_auth.specs.Key.{keyed_of}
 use Rattle.delayed_auth.specs.Seal.{seal_of}

@@ -27,7 +27,7 @@ use Rattle.delayed_auth.specs.declared.Keyed.TheVariants.{Row, NoKey}
 use Rattle.delayed_auth.specs.Check.{new_to, check_of, marks_after, received_after, verdict_number}
 use Rattle.delayed_auth.specs.Key.{keyed_of, key_number, key_bytes, key_offset}
 use Rattle.demands.specs.Accepts.{Names}
-use Rattle.demands.specs.Demand1.{Claims, KeyApplies, not_sound, by_form, no_row, CheckApplies, by_key, not_new, differs}
+use Rattle.demands.specs.Demand1.{Claims, KeyApplies, CheckApplies, by_key, not_new, differs}
 use Rattle.demands.proofs.Below.{said_form, named_full}
 use Rattle.demands.proofs.Stages.{CheckEnd, check_unsound, check_refused, check_unknown, check_replay, check_wrong, check_accepts, check_end}
 use Rattle.demands.proofs.Stages.{accepts_claims, claims_names, KeyEnd, key_unsound, key_refused, key_unknown, key_names, key_end}

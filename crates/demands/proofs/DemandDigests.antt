@@ -13,12 +13,12 @@ use Rattle.refusal.specs.Lowest.{NothingBelow, Lowest}
 use Rattle.refusal.specs.declared.Refusal.{Refusal}
 use Rattle.refusal.specs.declared.Refusal.TheVariants.{TooLong}
 use Rattle.refusal.proofs.Lowest.{lowest}
-use Rattle.md5.specs.declared.Digest.{Digest}
-use Rattle.md5.specs.declared.Fed.{Fed}
-use Rattle.md5.specs.declared.Finished.{Finished}
-use Rattle.md5.specs.Block.{block_size}
-use Rattle.md5.specs.Entries.{digest_most, no_digest, feed_of, finish_of, md5_of}
-use Rattle.md5.proofs.Answers.{feed_taken, feed_refused, finish_taken, finish_refused, md5_taken, md5_refused}
+use Rattle.md5_digest.specs.declared.Digest.{Digest}
+use Rattle.md5_digest.specs.declared.Fed.{Fed}
+use Rattle.md5_digest.specs.declared.Finished.{Finished}
+use Rattle.md5_digest.specs.Block.{block_size}
+use Rattle.md5_digest.specs.Entries.{digest_most, no_digest, feed_of, finish_of, md5_of}
+use Rattle.md5_digest.proofs.Answers.{feed_taken, feed_refused, finish_taken, finish_refused, md5_taken, md5_refused}
 use Rattle.hmac_md5.specs.declared.Mac.{Mac}
 use Rattle.hmac_md5.specs.Hmac.{key_most, hmac_of}
 use Rattle.hmac_md5.proofs.Masks.{hmac_key_refused, hmac_text_refused, hmac_taken}

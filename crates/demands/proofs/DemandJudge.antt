@@ -152,7 +152,8 @@ module _ (s : Servers) (k : ℕ) (m : List ℕ) where
     shape_none p e r a l = (shape_given.passed m bytes).0 (p, e) r l a
 
     -- before anything of option 90 is looked at
-    early : (i : ℕ) → i ≤ place_of UnknownSecret → (Behind UnsoundBook i → SoundRows s) → ((r : Refusal) → Applies m r → number_of r < 8 → i ≤ place_of r) → Past i
+    early : (i : ℕ) → i ≤ place_of UnknownSecret → (Behind UnsoundBook i → SoundRows s) →
+        ((r : Refusal) → Applies m r → number_of r < 8 → i ≤ place_of r) → Past i
     unfolding place_of place_in
     early i l rows shape = record {
       rows = rows;

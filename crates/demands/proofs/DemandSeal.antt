@@ -20,7 +20,7 @@ use Rattle.key_book.specs.Book.{Book, Sound, row_of}
 use Rattle.key_book.specs.Laws.{NoRow}
 use Rattle.key_book.proofs.Says.{row_says}
 use Rattle.delayed_auth.specs.Seal.{Outcome, sealed, unsealed, counter_most, seal_of, message_after, sent_after, outcome_number}
-use Rattle.demands.specs.Demand1.{SealApplies, not_sound, by_form, no_row, spent}
+use Rattle.demands.specs.Demand1.{SealApplies, spent}
 use Rattle.demands.proofs.Stages.{SealEnd, seal_unsound, seal_refused, seal_unknown, seal_spent, seal_seals, seal_end}
 
 module _ (b : Book) (id : ℕ) (m : List ℕ) where

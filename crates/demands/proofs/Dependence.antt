@@ -3,7 +3,7 @@ use mathlib.Core.Path.{◌≡◌, refl, sym, ap, ap₂, ◌∙◌}
 use mathlib.Core.Bool.{Bool, ◌&&◌, not}
 use mathlib.Core.List.{List, ◌++◌}
 use mathlib.Core.Option.{Option, none, some}
-use Prim.Native.Nat.{ℕ, ◌+◌, ◌≤◌, ◌<◌}
+use Prim.Native.Nat.{ℕ, ◌≤◌, ◌<◌}
 use native.Mathlib.Decide.{ℕ_discrete, dec_lt}
 use borrow.Author.Tests.{eq-eqb, ne_eqb}
 use native.Mathlib.Omega.{arith}
@@ -187,7 +187,13 @@ module _ (a b : Book) (w : SameInUse a b) where
   same_key k s l =
       let z = w.alike in
       let t : Sound b = (sound_says b).0 (sym secrets.soundness ∙ (sound_says a).1 s) in
-      key_depends a b s t k (record { used = l; used_too = omega (arith, z.same_rows); same_size = z.same_lengths k l; same_bytes_lem = λ i h. w.bytes k i l h })
+      key_depends a b s t k (record {
+        used = l;
+        used_too = omega (arith, z.same_rows);
+        same_size = z.same_lengths k l;
+        same_bytes_lem = λ i h. w.bytes
+            k i l h;
+      })
 
   same_found : (m : List ℕ) (k : ℕ) → Sound a → Names a m k → key_of a k ≡ key_of b k
   same_found m k s n = same_key k s (used n.id k n.secret)

@@ -1,4 +1,4 @@
--- After the largest counter is accepted no counter up to it is new to the row (`old-after`), and no message of bytes says a larger one.
+-- After the largest counter is accepted no counter up to it is new to the row (`old_after`), and no message of bytes says a larger one.
 use mathlib.Core.Path.{◌≡◌, sym, ◌∙◌}
 use mathlib.Core.Bool.{true≢false}
 use mathlib.Core.List.{List}

@@ -1,5 +1,5 @@
--- The ends of a check, of the key of a message and of a seal in the demands' words: what is so where the answer is this one (`check-end`), and that
--- the answer is this one where that is so (`end-check`). All else in this crate goes by these laws; the definitions are unfolded in delayed_auth.
+-- The ends of a check, of the key of a message and of a seal in the demands' words: what is so where the answer is this one (`check_end`), and that
+-- the answer is this one where that is so (`end_check`). All else in this crate goes by these laws; the definitions are unfolded in delayed_auth.
 use mathlib.Core.Path.{◌≡◌, refl, sym, ◌∙◌}
 use mathlib.Core.Logic.{◌≢◌}
 use mathlib.Core.Bool.{Bool, true, false}

@@ -114,15 +114,15 @@ counters_sound b marks received sent e f g fit s =
 
 -- a check leaves marks that fit: a row that is heard may have any counter
 hears_fits : (b : Book) → Sound b → (m : List ℕ) (k : ℕ) → k < b.rows → {v : Verdict} {x : ℕ × ℕ} → Hears b m k v x → MarkFits x.0 x.1
-hears_fits b s m k l refuses = s.marks_fit k l
-hears_fits b s m k l (elsewhere w n) = s.marks_fit k l
+hears_fits b s m k l refuses = s.marks_fit_lem k l
+hears_fits b s m k l (elsewhere w n) = s.marks_fit_lem k l
 hears_fits b s m k l (here w new) = record { known = inr refl; fresh = λ z. absurd (omega arith) }
 
 pub step_sound : (b : Book) → Sound b → (s : Step) → Sound (book_after b s)
 step_sound b s (check m) =
     counters_sound b _ _ _ (marks_size (check_of b m) b.marks) (received_size (check_of b m) b.received) refl
     (λ k l. hears_fits b s m k l (hears b s m k)) s
-step_sound b s (seal id m) = counters_sound b _ _ _ refl refl (sent_size (seal_of b id m) b.sent) s.marks_fit s
+step_sound b s (seal id m) = counters_sound b _ _ _ refl refl (sent_size (seal_of b id m) b.sent) s.marks_fit_lem s
 step_sound b s (judge k m) = s
 
 -- ---- the books of a run: sound, with the ids, the row count and the room of the first one
@@ -207,11 +207,14 @@ replays b₀ a b m k c v w e h =
 
 -- no counter up to an accepted one is new to the row afterwards
 pub old_then : (b : Book) (m : List ℕ) (k c d : ℕ) → Sound b → check_of b m ≡ Accepted k c → d ≤ c → new_to (book_after b (check m)) k d ≡ false
-old_then b m k c d s e l = rw e (on (rw e at (hears b s m k)))
+old_then b m k c d s e l = on (hears b s m k) e
   where
-    on : {x : ℕ × ℕ} → Hears b m k (Accepted k c) x → new_with x d ≡ false
-    on (elsewhere w n) = absurd (n refl)
-    on (here w new) = counter_old c d l
+    on : {v : Verdict} {x : ℕ × ℕ} → Hears b m k v x → v ≡ Accepted k c → new_with x d ≡ false
+    on refuses a = cc
+    on (elsewhere w n) a = absurd (n cc)
+    on (here {c = e} w new) a =
+        let q : e ≡ c = cc in
+        counter_old e d (omega arith)
 
 -- a counter that is not new to a row is not new to it after any step: the row was heard, so it has a larger counter now or is as it was
 pub stays_old : (b : Book) (s : Step) (k c : ℕ) → Sound b → new_to b k c ≡ false → new_to (book_after b s) k c ≡ false

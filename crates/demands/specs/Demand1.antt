@@ -12,9 +12,9 @@ use Rattle.refusal.specs.declared.Refusal.TheVariants.{UnsoundBook, UnknownSecre
 use Rattle.refusal.specs.declared.Refusal.TheVariants.{MalformedCard, NoRoomForCard, NoRoomForRows, RowNotHeard}
 use Rattle.refusal.specs.declared.Refusal.TheVariants.{MessageSize, WrongCookie, BrokenOptions, NoAuthentication, RepeatedAuthentication}
 use Rattle.refusal.specs.declared.Refusal.TheVariants.{RelayInformation, OtherAuthentication, NotByNonce, WrongType, NoNonce, NoRoomForReport}
-use Rattle.md5.specs.declared.Digest.{Digest}
-use Rattle.md5.specs.Block.{block_size}
-use Rattle.md5.specs.Entries.{digest_most, no_digest, feed_of, finish_of, md5_of}
+use Rattle.md5_digest.specs.declared.Digest.{Digest}
+use Rattle.md5_digest.specs.Block.{block_size}
+use Rattle.md5_digest.specs.Entries.{digest_most, no_digest, feed_of, finish_of, md5_of}
 use Rattle.hmac_md5.specs.Hmac.{key_most, hmac, hmac_of}
 use Rattle.octets.specs.Bytes.{Bytes}
 use Rattle.dhcp_message.specs.Said.{says, said_of, named}
@@ -208,10 +208,10 @@ pub record Demand1 : Type 0 where
       → ((piece_of b st piece).state ≡ st) × (feed_spare b st piece ≡ b)
   pub card_finish : (b : Book) (st : Reader) (c : Book) → Lowest (FinishApplies b st c) (read_number (end_of b st c))
   pub card_finish_keeps : (b : Book) (st : Reader) (c : Book) → read_number (end_of b st c) ≢ done → finish_book b st c ≡ c
-  -- the judgement by a nonce: the first in `judgingOrder` that applies
+  -- the judgement by a nonce: the first in `judging_order` that applies
   pub judge : (s : Servers) (k : ℕ) (m : List ℕ) → Bytes m → First judging_order (JudgeApplies s k m) (judged_number (judged_of (judge_of s k m)))
   pub judge_keeps : (s : Servers) (k : ℕ) (m : List ℕ) → judged_number (judged_of (judge_of s k m)) ≢ done → servers_after k (judge_of s k m) s ≡ s
-  -- the comparison of two messages: the first in `compareOrder` that applies
+  -- the comparison of two messages: the first in `compare_order` that applies
   pub compare : (first second room : List ℕ) → Bytes first → Bytes second
       → FirstOf compare_order compare_number (CompareApplies first second room) (compared_number (compare_of first second (length room)))
   pub compare_keeps : (first second room : List ℕ) → compared_number (compare_of first second (length room)) ≢ done → room_compared first second room ≡ room
