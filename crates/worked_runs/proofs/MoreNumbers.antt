@@ -10,6 +10,7 @@ use Rattle.worked_runs.specs.MoreNumbers.{MoreNumbers}
 use Rattle.demands.proofs.Computing.{computing}
 
 pub more_numbers : MoreNumbers
-unfolding computing le value little_at mark_size row_kind record_of row_record close row_records card_of form_in mark_in front_of front_from rows_in_front read_card
+unfolding computing le value little_at mark_size row_kind record_of row_record close row_records card_of form_in mark_in front_of front_from
+    rows_in_front read_card
     read_of rows_from rows_of write_of
 more_numbers = record { number_1 = refl; number_13 = refl; number_16 = refl; number_17 = refl }

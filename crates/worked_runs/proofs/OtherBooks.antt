@@ -24,7 +24,8 @@ module _ (x y : ℕ) where
   -- the bytes of the keys of both rows
   same_byte : (k i : ℕ) → k < 2 → i < get_or (filled_with x).lengths k 0
       → get_or (filled_with x).store (64 * k + i) 0 ≡ get_or (filled_with y).store (64 * k + i) 0
-  same_byte zero i h l = each 4 (λ i. get_or (filled_with x).store (0 + i) 0 ≡ get_or (filled_with y).store (0 + i) 0) (refl and refl and refl and refl and tt) i l
+  same_byte zero i h l = each 4 (λ i. get_or (filled_with x).store (0 + i) 0 ≡ get_or (filled_with y).store (0 + i) 0)
+      (refl and refl and refl and refl and tt) i l
   same_byte (suc zero) i h l =
       each 4 (λ i. get_or (filled_with x).store (64 + i) 0 ≡ get_or (filled_with y).store (64 + i) 0) (refl and refl and refl and refl and tt) i l
   same_byte (suc (suc k)) i h l = absurd (omega arith)

@@ -1,5 +1,5 @@
 -- A case for each number (docs/RULES.md, 'Numbers') that is shown as a number nowhere else: 2 to 9 are in dhcp_message/specs/Bench.antt, 10 to 12 in
--- demands/specs/Bench.antt, 14 in md5/specs/Limits.antt, 15 and 18 in card_laws/specs/Examples.antt, 19 to 21 in forcerenew/specs/Examples.antt,
+-- demands/specs/Bench.antt, 14 in md5_digest/specs/Limits.antt, 15 and 18 in card_laws/specs/Examples.antt, 19 to 21 in forcerenew/specs/Examples.antt,
 -- and 22 in comparison/specs/Examples.antt. The one proof is proofs/MoreNumbers.antt.
 use Rattle.std.specs.Prelude.{◌≡◌, [], ◌∷◌}
 use Rattle.key_book.specs.Book.{Book, book_of}

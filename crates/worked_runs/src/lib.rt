@@ -1,5 +1,7 @@
 // Calls of the library put together, seeing their contracts alone; and runs of demand 3 worked out, in specs/.
 // Not here: the demands themselves (demands), which hold of every run.
+#![tactic(auto)]
+
 ghost use Rattle.std.specs.Prelude.{◌≡◌, [], ◌∷◌, map};
 ghost use Rattle.refusal.specs.Number.{number_of, done};
 ghost use Rattle.refusal.specs.declared.Refusal.TheVariants.{Replay};
@@ -12,7 +14,7 @@ ghost use Rattle.worked_runs.specs.Calls.{alone, again, answer_number, buffer_of
 use delayed_auth::{Sealing, Verdict};
 
 // The numbers of three calls.
-#[derive(Drop)]
+#[derive(Clone, Copy)]
 pub struct Numbers {
     pub first: u8,
     pub sealed: u8,
