@@ -1,6 +1,6 @@
 -- A digest in progress as it is lent: four words, a tail and a total (docs/RULES.md, 'Digests').
 use Rattle.std.specs.Prelude.{ℕ, List, [], ◌∷◌, get_or}
-use Rattle.md5.specs.declared.Digest.{Digest}
+use Rattle.md5_digest.specs.declared.Digest.{Digest}
 
 -- the state of four words, A first, a tail and a total
 unfoldable pub state_of : List ℕ → List ℕ → ℕ → Digest

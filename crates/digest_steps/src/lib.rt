@@ -1,11 +1,13 @@
 // The digest in progress as C calls it, for the tests alone (tests/compare/tests/digests.rs): each entry puts the state together from what
-// is lent, calls md5's entry, and takes the state apart again. The library's own interface is the crate rimemagpie.
+// is lent, calls md5_digest's entry, and takes the state apart again. The library's own interface is the crate rimemagpie.
+#![tactic(auto)]
+
 ghost use Rattle.std.specs.Prelude.{◌≡◌};
-ghost use Rattle.md5.specs.Entries.{fresh, feed_of, finish_of};
+ghost use Rattle.md5_digest.specs.Entries.{fresh, feed_of, finish_of};
 ghost use Rattle.digest_steps.specs.State.{state_of, four_words};
 
-use md5::{BLOCK_SIZE, DIGEST_SIZE, Digest};
 use md5_block::Words;
+use md5_digest::{BLOCK_SIZE, DIGEST_SIZE, Digest};
 
 // The state of four words, a tail and a total.
 fn state_of(words: &[u32; 4], tail: &[u8; BLOCK_SIZE], total: u64) -> Digest
