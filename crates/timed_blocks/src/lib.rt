@@ -1,6 +1,8 @@
 // Both ways to do MD5's work on one block (RFC 1321, section 3.4), as C calls them, for the bench (bench/bench.c) and the comparison
 // (tests/compare/tests/blocks.rs) alone: md5_block's, which is written out by round, and the one that reads tables (table.rt). Both have the same
 // equation, so they give the same words for every state and every block. The library's own interface is the crate rimemagpie.
+#![tactic(auto)]
+
 mod table;
 
 ghost use Rattle.std.specs.Prelude.{◌≡◌};
