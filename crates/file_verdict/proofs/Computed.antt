@@ -5,8 +5,8 @@ use native.Mathlib.Omega.{arith}
 use lib.ListN.{replicate, length-replicate}
 use Rattle.md5_block.specs.Word.{rotl, auxiliary, word_no, additive, rotations}
 use Rattle.md5_block.specs.Block.{step_with, step_at, steps, round, compress}
-use Rattle.md5.specs.Block.{load_to, load, blocks}
-use Rattle.md5.specs.Message.{md5, padded, padding, output}
+use Rattle.md5_digest.specs.Block.{load_to, load, blocks}
+use Rattle.md5_digest.specs.Message.{md5, padded, padding, output}
 use Rattle.hmac_md5.specs.Hmac.{masked, hmac}
 use Rattle.octets.specs.Bytes.{written, filled, same_bytes}
 use Rattle.octets.specs.Numbers.{le, value, little_at, big_at}
@@ -26,10 +26,11 @@ use Rattle.file_verdict.specs.Example9.{Example9}
 use Rattle.file_verdict.proofs.Contents.{readable_fits, readable_too_large}
 
 pub example_9 : Example9
-unfolding hmac masked md5 padded padding blocks compress round steps step_at step_with rotl auxiliary word_no additive rotations load load_to
-    output said_of checked_of checked_tokens decode_at said_by form_of image_of written sound sized ascending key_sizes mark_fits marks_fit all_below place_from row_in
-    key_fits key_in is_new same_bytes judged_row judged_said admitted_said check_of le value little_at big_at mark_size row_kind form_in mark_in front_of front_from
-    rows_in_front read_card filled slots_of loaded read_of rows_in read_book readable loaded_of book_loaded message_line line_for
+unfolding hmac masked md5 padded padding blocks compress round steps step_at step_with rotl auxiliary word_no additive rotations load load_to output
+    said_of checked_of checked_tokens decode_at said_by form_of image_of written sound sized ascending key_sizes mark_fits marks_fit all_below
+    place_from row_in key_fits key_in is_new same_bytes judged_row judged_said admitted_said check_of le value little_at big_at mark_size row_kind
+    form_in mark_in front_of front_from rows_in_front read_card filled slots_of loaded read_of rows_in read_book readable loaded_of book_loaded
+    message_line line_for
 example_9 = record {
   put_right = refl;
   mac_bit_off = refl;

@@ -1,4 +1,4 @@
--- The content of a file: what a room holds of it (`fileIn`), and what may be judged of it (`readable`). The only law file that unfolds these two.
+-- The content of a file: what a room holds of it (`file_in`), and what may be judged of it (`readable`). The only law file that unfolds these two.
 use Prim.Native.Nat.{ℕ, ◌≤◌, ◌<◌}
 use mathlib.Core.Path.{◌≡◌, refl, sym, ap, ◌∙◌}
 use mathlib.Core.Bool.{Bool, true, false}

@@ -1,4 +1,4 @@
--- What one read's answer means (`afterRead`), a law for each end of the decision; and what the loop that reads a file needs of it.
+-- What one read's answer means (`after_read`), a law for each end of the decision; and what the loop that reads a file needs of it.
 use Prim.Native.Nat.{ℕ, zero, suc, ◌+◌, ◌≤◌, ◌<◌}
 use mathlib.Core.Path.{◌≡◌, refl, subst}
 use mathlib.Core.Bool.{Bool, true, false, cond}

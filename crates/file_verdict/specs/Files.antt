@@ -1,6 +1,6 @@
 -- From the two files to the line: docs/RULES.md, 'The program'. A file is its bytes, or none where it is missing or can't be read.
--- `line_for` is the whole decision. It goes in two parts, since the card is judged before the message file is looked at: by `loadedOf` and
--- `bookLoaded` from the card, and by `messageLine` from the book and the message.
+-- `line_for` is the whole decision. It goes in two parts, since the card is judged before the message file is looked at: by `loaded_of` and
+-- `book_loaded` from the card, and by `message_line` from the book and the message.
 use Rattle.std.specs.Prelude.{ℕ, ◌+◌, ◌*◌, ◌<◌, cond, List, leb, eqb, ℤ, pos, negsuc, length, take}
 use Rattle.std.proofs.Math.Option.{Option, none, some}
 use Rattle.octets.specs.Bytes.{zeros}

@@ -5,6 +5,8 @@
 // Not here: opening and reading the files (program_files), and the line's bytes (verdict_line).
 //
 // The book is lent as ids, key lengths, key store, marks, received counters, sent counters and row count, in this order.
+#![tactic(auto)]
+
 ghost use Rattle.std.specs.Prelude.{◌≡◌};
 ghost use Rattle.key_book.specs.Book.{book_of};
 ghost use Rattle.file_verdict.specs.Files.{file_in, readable, content_of, loaded_of, rows_loaded, book_loaded, verdict_line, message_line};
@@ -18,7 +20,7 @@ use verdict_line::Line;
 pub const FILE_MOST: usize = 65535;
 
 // What a file holds.
-#[derive(Drop)]
+#[derive(Clone, Copy)]
 pub enum Content {
     // It is missing, can't be read or is too large.
     Unreadable,
@@ -27,7 +29,7 @@ pub enum Content {
 }
 
 // How far the reading of a file is.
-#[derive(Drop)]
+#[derive(Clone, Copy)]
 pub enum Progress {
     // It has ended, and this is what the file holds.
     Ended(Content),
@@ -36,7 +38,7 @@ pub enum Progress {
 }
 
 // The book after its card is judged.
-#[derive(Drop)]
+#[derive(Clone, Copy)]
 pub enum Loaded {
     // There is none, and this is the line.
     Stopped(Line),
