@@ -1,4 +1,4 @@
--- What the comparison answers and leaves, by the case that was met: the laws of `reportOf` and `reportFor` for the code.
+-- What the comparison answers and leaves, by the case that was met: the laws of `report_of` and `report_for` for the code.
 use Prim.Native.Nat.{ℕ, ◌≤◌}
 use mathlib.Core.Path.{◌≡◌, sym, ap, ◌∙◌}
 use mathlib.Core.List.{List}

@@ -1,6 +1,8 @@
 // From the bytes of `first.bin` and `second.bin` to what the program `compare_messages` writes: docs/RULES.md, 'Two files side by side'.
 // Either file may be one that is not judged (file_verdict, `within_limit`); two that are go to the comparison, whose lines or refusal are written.
 // Not here: reading the files (program_files), and the comparison itself (comparison).
+#![tactic(auto)]
+
 ghost use Rattle.std.specs.Prelude.{◌≡◌, length};
 ghost use Rattle.verdict_line.specs.Line.{size_in, out_after};
 ghost use Rattle.file_verdict.specs.Files.{file_in};
