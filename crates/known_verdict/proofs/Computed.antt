@@ -30,8 +30,9 @@ id_examples = record {
 }
 
 pub known_examples : KnownExamples
-unfolding digits_only value_behind id_behind id_in asked_of known_line halved_in halved taken known_of written filled value little_at sized mark_fits mark_size row_kind
-    form_in mark_in front_of front_from rows_in_front read_card slots_of loaded read_of rows_in read_book readable loaded_of book_loaded
+unfolding digits_only value_behind id_behind id_in asked_of known_line halved_in halved taken known_of written filled value little_at sized mark_fits
+    mark_size row_kind form_in mark_in front_of front_from rows_in_front read_card slots_of loaded read_of rows_in read_book readable loaded_of
+    book_loaded
 known_examples = record {
   in_row = refl;
   new_card = refl;

@@ -1,4 +1,4 @@
--- An argument read from its front, a character at a time: the laws of `idBehind` and `idIn`, one for each end and turn of `read_id`'s loop; and which words
+-- An argument read from its front, a character at a time: the laws of `id_behind` and `id_in`, one for each end and turn of `read_id`'s loop; and which words
 -- and room hold one (specs/Laws.antt, `ArgumentSays`).
 use mathlib.Core.Path.{◌≡◌, refl, sym, ap, ◌∙◌}
 use mathlib.Core.Logic.{◌≢◌}

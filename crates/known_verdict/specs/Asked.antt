@@ -1,6 +1,6 @@
 -- From the argument and the card to the line that the program `known` writes: docs/RULES.md, 'A known id'. The argument is its bytes, or none where there is
 -- none, more than one, or none that can be held; the card's file is its bytes, or none where it is missing or can't be read.
--- `knownLine` is the whole decision. The argument is judged before the card is looked at.
+-- `known_line` is the whole decision. The argument is judged before the card is looked at.
 use Rattle.std.specs.Prelude.{List, ℕ}
 use Rattle.std.proofs.Math.Option.{Option}
 use Rattle.refusal.specs.declared.Refusal.TheVariants.{UnsoundBook}

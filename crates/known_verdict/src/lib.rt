@@ -1,6 +1,8 @@
 // From the argument and the bytes of `book.card` to the line that the program `known` writes: docs/RULES.md, 'A known id'.
 // The argument is judged first (`read_argument`); the card is file_verdict's (`load_card`), and in the rows that it gives the id is sought (`known_line`).
 // Not here: taking the argument and reading the file (known, program_files), and the line's bytes (verdict_line).
+#![tactic(auto)]
+
 ghost use Rattle.std.specs.Prelude.{◌≡◌};
 ghost use Rattle.known_verdict.specs.Argument.{asked_of, argument_in, argument_of};
 ghost use Rattle.known_verdict.specs.Asked.{sought_line, id_line};
@@ -20,7 +22,7 @@ const WORDS_WANTED: usize = 2;
 const IDS_LIMIT: u64 = 4294967296;
 
 // What an argument asks for.
-#[derive(Drop)]
+#[derive(Clone, Copy)]
 pub enum Asked {
     // This id.
     Id(u32),
