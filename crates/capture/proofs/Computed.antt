@@ -6,7 +6,8 @@ use Rattle.capture.specs.Frame.{field_at, is_whole_udp, lengths_fit, is_dhcp_por
 use Rattle.capture.specs.Examples.{CaptureExamples}
 
 pub capture_examples : CaptureExamples
-unfolding value little_at big_at number_at is_ethernet file_header_of record_header_of records_to records_from records_of field_at is_whole_udp lengths_fit is_dhcp_port
+unfolding value little_at big_at number_at is_ethernet file_header_of record_header_of records_to records_from records_of field_at is_whole_udp
+    lengths_fit is_dhcp_port
     is_dhcp datagram_place place_of payload_of
 capture_examples = record {
   least = refl;

@@ -73,7 +73,8 @@ module _ (frame : List ℕ) where
   not_whole n = sym (refuted _ whole_udp_says n)
 
   -- where the last test decides
-  pub whole_by_fragment : field_at frame ether_type_at ≡ ether_ipv4 → get_or frame packet_at 0 / 16 ≡ ip_version → get_or frame (packet_at + protocol_at) 0 ≡ udp
+  pub whole_by_fragment : field_at frame ether_type_at ≡ ether_ipv4 → get_or frame packet_at 0 / 16 ≡ ip_version → get_or frame
+      (packet_at + protocol_at) 0 ≡ udp
       → (fragment : ℕ) → fragment ≡ field_at frame (packet_at + fragment_at) → eqb (fragment % fragment_below) 0 ≡ is_whole_udp frame
   unfolding is_whole_udp
   whole_by_fragment t v p fragment e = rw (e, eq-eqb _ _ t, eq-eqb _ _ v, eq-eqb _ _ p)
@@ -116,7 +117,8 @@ module _ (frame : List ℕ) (at room : ℕ) where
     λ d. simp (and-eq-true_iff, leb_says, ports_say) ((d.header_covered, d.within), d.port),
   )
 
-  pub datagram_at_lem : (size : ℕ) → size ≡ udp_length frame at → Dhcp frame at room → At (at + udp_header_size) (size - udp_header_size) ≡ datagram_place frame at room
+  pub datagram_at_lem : (size : ℕ) → size ≡ udp_length frame at → Dhcp frame at room → At (at + udp_header_size) (size - udp_header_size) ≡
+      datagram_place frame at room
   unfolding datagram_place
   datagram_at_lem size e d = rw (e, dhcp_says.1 d)
 

@@ -1,4 +1,4 @@
--- The headers of a file and of a record: `number_at`, `isEthernet`, `fileHeaderOf` and `recordHeaderOf`, a law for each end of each, and what they say.
+-- The headers of a file and of a record: `number_at`, `is_ethernet`, `file_header_of` and `record_header_of`, a law for each end of each, and what they say.
 -- The only law file that unfolds these four.
 use Prim.Native.Nat.{ℕ, ◌+◌, ◌≤◌, ◌<◌}
 use mathlib.Core.Path.{◌≡◌, refl, sym, ap, ◌∙◌, subst}
@@ -14,7 +14,8 @@ use Rattle.octets.specs.Numbers.{le, little_at, big_at}
 use Rattle.octets.proofs.Starts.{and_true}
 use Rattle.octets.proofs.LowFirst.{number_append, number_split}
 use Rattle.octets.proofs.HighFirst.{big_append}
-use Rattle.capture.specs.Layout.{file_header_size, number_size, magic_at, magic, link_type_at, ethernet, record_header_size, captured_at, original_at, frame_most}
+use Rattle.capture.specs.Layout.{file_header_size, number_size, magic_at, magic, link_type_at, ethernet, record_header_size, captured_at, original_at}
+use Rattle.capture.specs.Layout.{frame_most}
 use Rattle.capture.specs.declared.Order.{Order}
 use Rattle.capture.specs.declared.Order.TheVariants.{LowFirst, HighFirst}
 use Rattle.capture.specs.declared.FileHeader.{FileHeader}

@@ -36,7 +36,8 @@ record Read (frame kind ip udp payload : List ℕ) : Type 0 where
   size : big_at udp length_at field_size ≡ udp_length frame (packet_at + length ip)
   bytes : take (length payload) (drop (packet_at + length ip + udp_header_size) frame) ≡ payload
 
-module _ (addresses kind ip udp payload rest : List ℕ) (ha : length addresses ≡ ether_type_at) (hk : length kind ≡ field_size) (hi : ip_header_least ≤ length ip)
+module _ (addresses kind ip udp payload rest : List ℕ) (ha : length addresses ≡ ether_type_at) (hk : length kind ≡ field_size)
+    (hi : ip_header_least ≤ length ip)
     (hu : length udp ≡ udp_header_size) where
   abbrev joined : List ℕ
   joined = addresses ++ (kind ++ (ip ++ (udp ++ (payload ++ rest))))

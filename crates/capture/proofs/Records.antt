@@ -1,4 +1,4 @@
--- The records of a file: `recordsTo`, `recordsFrom` and `recordsOf`, and what they say. The only law file that unfolds these three.
+-- The records of a file: `records_to`, `records_from` and `records_of`, and what they say. The only law file that unfolds these three.
 use Prim.Native.Nat.{ℕ, zero, suc, ◌+◌, ◌≤◌, ◌<◌}
 use mathlib.Core.Path.{◌≡◌, refl, sym, ap, ◌∙◌}
 use mathlib.Core.Logic.{◌⊎◌, inl, inr}
@@ -105,7 +105,8 @@ module _ (order : Order) where
   -- a record in three parts
   pub records_parts : (header frame rest : List ℕ) → length header ≡ record_header_size → number_at order header captured_at ≡ length frame
       → length frame ≤ frame_most
-      → records_from order (header ++ (frame ++ rest)) ≡ before (record { frame = frame; original = number_at order header original_at }) (records_from order rest)
+      → records_from order (header ++ (frame ++ rest)) ≡ before (record { frame = frame; original = number_at order header original_at })
+      (records_from order rest)
   records_parts header frame rest h c m =
       let s = header ++ (frame ++ rest) in
       let n = length-append header (frame ++ rest) in
@@ -124,7 +125,8 @@ pub records_none : (file : List ℕ) → file_header_of file ≡ Other → recor
 unfolding records_of
 records_none file e = ap (records_by file) e
 
-pub records_of_lem : (file : List ℕ) (order : Order) → file_header_of file ≡ Ethernet order → records_of file ≡ some (records_from order (drop file_header_size file))
+pub records_of_lem : (file : List ℕ) (order : Order) → file_header_of file ≡ Ethernet order → records_of file ≡ some
+    (records_from order (drop file_header_size file))
 unfolding records_of
 records_of_lem file order e = ap (records_by file) e
 

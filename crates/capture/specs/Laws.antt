@@ -50,7 +50,8 @@ pub record RecordsSay : Type 0 where
       → records_from order s ≡ cut_here
   pub next : (order : Order) (header frame rest : List ℕ) → length header ≡ record_header_size → number_at order header captured_at ≡ length frame
       → length frame ≤ frame_most
-      → records_from order (header ++ (frame ++ rest)) ≡ before (record { frame = frame; original = number_at order header original_at }) (records_from order rest)
+      → records_from order (header ++ (frame ++ rest)) ≡ before (record { frame = frame; original = number_at order header original_at })
+      (records_from order rest)
   -- the whole file
   pub short_header : (file : List ℕ) → length file < file_header_size → records_of file ≡ none
   pub other_header : (header rest : List ℕ) → length header ≡ file_header_size → file_header_of header ≡ Other → records_of (header ++ rest) ≡ none

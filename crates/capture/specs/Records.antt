@@ -2,7 +2,8 @@
 use Rattle.std.specs.Prelude.{ℕ, zero, suc, ◌+◌, Bool, true, false, cond, ◌&&◌, List, [], ◌∷◌, ◌++◌, ltb, eqb, length, take, drop}
 use Rattle.std.proofs.Math.Option.{Option, none, some}
 use Rattle.octets.specs.Numbers.{little_at, big_at}
-use Rattle.capture.specs.Layout.{file_header_size, number_size, magic_at, magic, link_type_at, ethernet, record_header_size, captured_at, original_at, frame_most}
+use Rattle.capture.specs.Layout.{file_header_size, number_size, magic_at, magic, link_type_at, ethernet, record_header_size, captured_at, original_at}
+use Rattle.capture.specs.Layout.{frame_most}
 use Rattle.capture.specs.declared.Order.{Order}
 use Rattle.capture.specs.declared.Order.TheVariants.{LowFirst, HighFirst}
 use Rattle.capture.specs.declared.FileHeader.{FileHeader}

@@ -1,6 +1,8 @@
 // A classic capture (the pcap file format that tcpdump writes): the file's header, a record's header, and which part of a record's frame is the
 // payload of a DHCP datagram. docs/RULES.md, 'A recording'.
 // Not here: reading the file, and judging a payload (capture_verdict).
+#![tactic(auto)]
+
 pub use frame::payload_place;
 pub use header::{file_header, record_header};
 pub use layout::{FILE_HEADER_SIZE, FRAME_MOST, RECORD_HEADER_SIZE};
@@ -10,14 +12,14 @@ mod header;
 mod layout;
 
 // The byte order of the numbers in the file's header and in the records' headers.
-#[derive(Drop)]
+#[derive(Clone, Copy)]
 pub enum Order {
     LowFirst,
     HighFirst,
 }
 
 // What the file's header says.
-#[derive(Drop)]
+#[derive(Clone, Copy)]
 pub enum FileHeader {
     // It is no classic capture of Ethernet frames.
     Other,
@@ -26,7 +28,7 @@ pub enum FileHeader {
 }
 
 // What a record's header says.
-#[derive(Drop)]
+#[derive(Clone, Copy)]
 pub enum RecordHeader {
     // The file is cut here: the header is not all there, or its captured length is above FRAME_MOST.
     Cut,
@@ -35,7 +37,7 @@ pub enum RecordHeader {
 }
 
 // Which part of a frame is judged.
-#[derive(Drop)]
+#[derive(Clone, Copy)]
 pub enum Payload {
     // None of it: the frame is no whole DHCP datagram.
     Skipped,
