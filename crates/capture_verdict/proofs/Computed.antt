@@ -29,7 +29,8 @@ same_lines none = refl
 same_lines (some capture) = refl
 
 pub recording_example : RecordingExample
-unfolding loading accepted_line worded_line numbered_line decimal digits_to number_at is_ethernet file_header_of record_header_of records_to records_from records_of
+unfolding loading accepted_line worded_line numbered_line decimal digits_to number_at is_ethernet file_header_of record_header_of records_to
+    records_from records_of
     field_at is_whole_udp lengths_fit is_dhcp_port is_dhcp datagram_place place_of payload_of record_line marks_by received_by lines_of lines_to_failure
 recording_example = record {
   by_book_b = refl;

@@ -1,5 +1,5 @@
 -- One record, by whether it has a payload: its line, the marks, the received counters and the book afterwards. The only law file that unfolds
--- `recordLine`, `marksBy` and `receivedBy`.
+-- `record_line`, `marks_by` and `received_by`.
 use Prim.Native.Nat.{ℕ, ◌+◌, ◌-◌}
 use mathlib.Core.Path.{◌≡◌, sym, ap, ◌∙◌}
 use mathlib.Core.List.{List}

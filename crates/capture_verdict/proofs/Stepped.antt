@@ -1,5 +1,5 @@
 -- Record by record: what the records in front of the bytes are (capture, `RecordsSay` and `RecordHeaderSays`), as lines.
-use Prim.Native.Nat.{ℕ, ◌+◌}
+use Prim.Native.Nat.{ℕ}
 use mathlib.Core.Path.{◌≡◌, ap}
 use mathlib.Core.List.{List, [], ◌++◌}
 use Rattle.key_book.specs.Book.{Book}
@@ -10,7 +10,8 @@ use Rattle.capture_verdict.specs.Lines.{lines_for, lines_from, lines_in, lines_o
 use Rattle.capture_verdict.specs.Laws.{ByRecord}
 
 -- the lines by the records
-by_records : (order : Order) (b : Book) (n : ℕ) (s : List ℕ) {records : Records} → records_from order s ≡ records → lines_from order b n s ≡ lines_for b n records
+by_records : (order : Order) (b : Book) (n : ℕ) (s : List ℕ) {records : Records} → records_from order s ≡ records → lines_from order b n s ≡ lines_for
+    b n records
 unfolding lines_from
 by_records order b n s e = ap (lines_for b n) e
 

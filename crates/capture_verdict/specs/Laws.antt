@@ -69,7 +69,8 @@ pub record ByRecord : Type 0 where
       → record_header_of order header ≡ Frame captured original → length rest < captured → lines_from order b n (header ++ rest) ≡ line_of Cut ∷ []
   pub next : (order : Order) (b : Book) (n original : ℕ) (header frame rest : List ℕ) → length header ≡ record_header_size
       → record_header_of order header ≡ Frame (length frame) original
-      → lines_from order b n (header ++ (frame ++ rest)) ≡ numbered_line n (record_line b frame original) ∷ lines_from order (book_by b frame original) (suc n) rest
+      → lines_from order b n (header ++ (frame ++ rest)) ≡ numbered_line n (record_line b frame original)
+      ∷ lines_from order (book_by b frame original) (suc n) rest
 
 -- ---- a read that fails
 

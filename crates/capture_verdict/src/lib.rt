@@ -2,6 +2,8 @@
 // Not here: the capture's format (capture), reading it (the program judge_capture) and the bytes of a line (verdict_line).
 //
 // The book is lent as ids, key lengths, key store, marks, received counters, sent counters and row count, in this order.
+#![tactic(auto)]
+
 ghost use Rattle.std.specs.Prelude.{◌≡◌};
 ghost use Rattle.key_book.specs.Book.{book_of};
 ghost use Rattle.capture_verdict.specs.Lines.{record_line, marks_by, received_by};
