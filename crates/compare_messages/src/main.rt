@@ -2,25 +2,28 @@
 // side by side'.
 // Both files are read before anything is judged. Neither is changed.
 // Here is what is done in which order; the files are read by program_files, and what is written for their bytes is decided in comparison_verdict.
+#![tactic(auto)]
+
 ghost use Rattle.compare_messages.specs.Program.{FilesReported};
 
 use comparison::COMPARISON_MOST;
-use libc::STDOUT_FILENO;
 use program_files::FILE_ROOM;
+use std::io;
+use std::rt::Files;
 
 // Reads both files, and writes what the program writes for them to the front of the lent room. Returns its size.
-fn write_files(out: &mut [u8]) -> usize
+fn write_files<R: Files>(rt: &R, out: &mut [u8]) -> usize
     ensures { FilesReported out.old out.new result }
 {
     let mut room = [0u8; FILE_ROOM];
     let mut other = [0u8; FILE_ROOM];
-    let first = program_files::read_file(b"first.bin", &mut room);
-    let second = program_files::read_file(b"second.bin", &mut other);
+    let first = program_files::read_file(rt, b"first.bin", &mut room);
+    let second = program_files::read_file(rt, b"second.bin", &mut other);
     comparison_verdict::write_compared(first, &room, second, &other, out)
 }
 
-fn main() {
+fn main(rt: HostRuntime) -> io::Result<()> {
     let mut out = [0u8; COMPARISON_MOST];
-    let size = write_files(&mut out);
-    io::write_all(STDOUT_FILENO, &out[..size]);
+    let size = write_files(&rt, &mut out);
+    rt.write_all(&out[..size])
 }

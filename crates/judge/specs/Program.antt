@@ -11,4 +11,5 @@ use Rattle.file_verdict.specs.Files.{loaded_of, book_loaded, empty_book, line_fo
 -- (file_verdict, `LineSays`).
 abbrev pub CardLine : Loaded → Book → Line → Type 0
 CardLine loaded b line =
-    (card : Option (List ℕ)) → loaded ≡ loaded_of empty_book card → b ≡ book_loaded empty_book card → (message : Option (List ℕ)) × (line ≡ line_for card message)
+    (card : Option (List ℕ)) → loaded ≡ loaded_of empty_book card → b ≡ book_loaded empty_book card → (message : Option (List ℕ)) ×
+    (line ≡ line_for card message)

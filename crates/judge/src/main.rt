@@ -2,18 +2,22 @@
 // (verdict_line): docs/RULES.md, 'The program'.
 // The card is judged before the message file is looked at. Neither file is changed: what an accepted message stores is not written back.
 // Here is what is done in which order; the reads are program_files', and what the files' bytes mean is decided in file_verdict.
+#![tactic(auto)]
+
 ghost use Rattle.key_book.specs.Book.{book_of};
 ghost use Rattle.file_verdict.specs.Files.{rows_loaded};
 ghost use Rattle.judge.specs.Program.{CardLine};
 
 use file_verdict::Loaded;
 use key_book::{ROWS_MOST, SLOT_SIZE};
-use libc::STDOUT_FILENO;
 use program_files::FILE_ROOM;
+use std::io;
+use std::rt::Files;
 use verdict_line::{LINE_MOST, Line};
 
 // The line, from what the card gave and the book that was loaded from it. The message file is looked at only where there are rows.
-fn loaded_line(
+fn loaded_line<R: Files>(
+    rt: &R,
     loaded: Loaded,
     ids: &[u32],
     lengths: &[u8],
@@ -31,7 +35,7 @@ fn loaded_line(
         Loaded::Stopped(line) => line,
         Loaded::Rows(rows) => {
             let mut room = [0u8; FILE_ROOM];
-            let message = program_files::read_file(b"message.bin", &mut room);
+            let message = program_files::read_file(rt, b"message.bin", &mut room);
             file_verdict::message_line(
                 message, &room, ids, lengths, store, marks, received, sent, rows,
             )
@@ -39,7 +43,7 @@ fn loaded_line(
     }
 }
 
-fn main() {
+fn main(rt: HostRuntime) -> io::Result<()> {
     let mut ids = [0u32; ROWS_MOST];
     let mut lengths = [0u8; ROWS_MOST];
     let mut store = [0u8; ROWS_MOST * SLOT_SIZE];
@@ -47,6 +51,7 @@ fn main() {
     let mut received = [0u64; ROWS_MOST];
     let mut sent = [0u64; ROWS_MOST];
     let loaded = program_files::load_book(
+        &rt,
         &mut ids,
         &mut lengths,
         &mut store,
@@ -55,6 +60,7 @@ fn main() {
         &mut sent,
     );
     let line = loaded_line(
+        &rt,
         loaded,
         &ids,
         &lengths,
@@ -65,5 +71,5 @@ fn main() {
     );
     let mut out = [0u8; LINE_MOST];
     let size = verdict_line::write_line(&mut out, line);
-    io::write_all(STDOUT_FILENO, &out[..size]);
+    rt.write_all(&out[..size])
 }

@@ -2,13 +2,10 @@
 -- leaves the book as capture_verdict has it.
 use Prim.Native.Nat.{ℕ, suc, ◌+◌, ◌-◌, ◌^◌, ◌≤◌}
 use mathlib.Core.Path.{◌≡◌, refl, sym, ap, ap₂, ◌∙◌}
-use mathlib.Core.Logic.{⊎_elim}
 use mathlib.Core.Bool.{Bool, true, false, cond}
 use mathlib.Core.List.{List, [], ◌∷◌, ◌++◌, append_assoc, append-nil}
 use mathlib.Core.Option.{some}
 use native.Mathlib.Omega.{arith}
-use denote.Enum.Declared.{tag_of}
-use types.Run.{OneOf}
 use lib.Dec.{leb}
 use lib.ListN.{length, take, length-append}
 use lib.Seq.{length-take-le}
@@ -26,7 +23,6 @@ use Rattle.judge_capture.specs.Window.{window, RecordThere, NextIs, end_line, Ca
 use Rattle.judge_capture.specs.declared.Next.{Next}
 use Rattle.judge_capture.specs.declared.Next.TheVariants.{Record as ARecord, AtEnd, Cut, Failed}
 use Rattle.judge_capture.specs.Judging.{Judging, Judged, after_line, after_lines, Last, file_ends, file_cut, no_number, Waited, Recorded}
-use Rattle.judge_capture.specs.contracts.Next.{the_type}
 use Rattle.judge_capture.proofs.Windows.{window_parts}
 use Rattle.judge_capture.proofs.Taken.{window_size_lem}
 
@@ -122,7 +118,8 @@ numbered_snoc n (x ∷ lines) l =
     let e : n + suc (length lines) ≡ suc n + length lines = omega arith in
     rw e (ap (λ (s : List (List ℕ)). numbered_line n x ∷ s) (numbered_snoc (suc n) lines l))
 
-after_snoc : (room : ℕ) (w : List ℕ) (lines : List (List ℕ)) (l : List ℕ) → after_lines room w (lines ++ (l ∷ [])) ≡ after_line room (after_lines room w lines) l
+after_snoc : (room : ℕ) (w : List ℕ) (lines : List (List ℕ)) (l : List ℕ) → after_lines room w (lines ++ (l ∷ [])) ≡ after_line room
+    (after_lines room w lines) l
 after_snoc room w [] l = refl
 after_snoc room w (x ∷ lines) l = after_snoc room (after_line room w x) lines l
 
@@ -216,14 +213,11 @@ NoRecord AtEnd = Unit {0}
 NoRecord Cut = Unit {0}
 NoRecord Failed = Unit {0}
 
--- by the position of its variant
-pub no_record : (next : Next) → OneOf (1 ∷ 2 ∷ 3 ∷ []) (tag_of the_type next) → NoRecord next
-no_record (ARecord at end original have) k =
-    ⊎_elim (λ a. let z : ◌≡◌ {A = ℕ} 0 1 = a in omega arith)
-    (⊎_elim (λ a. let z : ◌≡◌ {A = ℕ} 0 2 = a in omega arith) (λ a. let z : ◌≡◌ {A = ℕ} 0 3 = a in omega arith)) k
-no_record AtEnd k = tt
-no_record Cut k = tt
-no_record Failed k = tt
+pub no_record : (next : Next) → ((at end original have : ℕ) → next ≡ ARecord at end original have → ⊥) → NoRecord next
+no_record (ARecord at end original have) n = n at end original have refl
+no_record AtEnd n = tt
+no_record Cut n = tt
+no_record Failed n = tt
 
 last_by : (order : Order) (left room : List ℕ) (number : ℕ) (next : Next) → NoRecord next → NextIs order left room next → Last order left number (end_line next)
 last_by order left room number (ARecord at end original have) h t = absurd h

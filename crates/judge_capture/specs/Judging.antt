@@ -52,7 +52,7 @@ pub record Waited (order : Order) (b : Book) (first marks received out : List �
 
 abbrev pub LinesWait : Order → Book → (first marks received out : List ℕ) → Waiting → Type 0
 LinesWait order b first marks received out (Size size) = Waited order b first marks received out size
-LinesWait order b first marks received out Broken = Unit {0}
+LinesWait order b first marks received out (Broken error) = Unit {0}
 
 -- ---- the whole file
 

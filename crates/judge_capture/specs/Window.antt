@@ -106,16 +106,16 @@ end_line next = cond (is_cut next) (line_of CutLine) []
 -- the lines that wait have so many bytes, or none where there may have been no room for one more
 abbrev pub RoomMade : ℕ → ℕ → Waiting → Type 0
 RoomMade size room (Waits left) = left ≡ cond (leb (size + numbered_most) room) size 0
-RoomMade size room Broken = room < size + numbered_most
+RoomMade size room (Broken error) = room < size + numbered_most
 
 -- there is room for one more
 abbrev pub RoomFor : ℕ → Waiting → Type 0
 RoomFor room (Waits left) = left + numbered_most ≤ room
-RoomFor room Broken = Unit {0}
+RoomFor room (Broken error) = Unit {0}
 
 abbrev pub WaitsWithin : ℕ → Waiting → Type 0
 WaitsWithin room (Waits size) = size ≤ room
-WaitsWithin room Broken = Unit {0}
+WaitsWithin room (Broken error) = Unit {0}
 
 -- a header of this order stands at the room's front, and the window behind it
 pub record CaptureThere (room : List ℕ) (order : Order) (from have : ℕ) : Type 0 where

@@ -3,6 +3,8 @@
 // The card is judged before the recording is looked at. Neither file is changed.
 // Here are the reads and writes: of the file only a window is in the room, and the lines wait in a room of their own until it is nearly full. What the
 // bytes mean is decided in capture and capture_verdict.
+#![tactic(auto)]
+
 ghost use Rattle.std.specs.Prelude.{◌≡◌, ◌+◌, ◌-◌, ◌≤◌, length, take};
 ghost use Rattle.key_book.specs.Book.{book_of};
 ghost use Rattle.verdict_line.specs.Line.{numbered_most, numbered_line, PutAt};
@@ -15,14 +17,17 @@ ghost use Rattle.judge_capture.specs.Judging.{Judged, LinesWait, RecordingJudged
 use capture::{FILE_HEADER_SIZE, FRAME_MOST, FileHeader, Order, RECORD_HEADER_SIZE, RecordHeader};
 use file_verdict::{Content, Loaded, Progress};
 use key_book::{ROWS_MOST, SLOT_SIZE};
-use libc::STDOUT_FILENO;
+use std::fs::File;
+use std::io;
+use std::io::Read;
+use std::rt::Files;
 use verdict_line::{LINE_MOST, Line, NUMBERED_MOST};
 
 // The room for the window of the file, which the largest frame fits, and the room for the lines.
 const ROOM: usize = FRAME_MOST + 1;
 
 // What was gathered of the file.
-#[derive(Drop)]
+#[derive(Clone, Copy)]
 enum Gathered {
     // At least as many bytes as were wanted: the window is from the first offset to the second.
     Window(usize, usize),
@@ -33,7 +38,7 @@ enum Gathered {
 }
 
 // The file's next record.
-#[derive(Drop)]
+#[derive(Clone, Copy)]
 enum Next {
     // Its frame is from the first offset to the second; then how many bytes the frame had, and where the window ends.
     Record(usize, usize, usize, usize),
@@ -46,16 +51,16 @@ enum Next {
 }
 
 // The lines that wait to be written.
-#[derive(Drop)]
+#[derive(Clone, Copy)]
 enum Waiting {
     // They have so many bytes, from the room's front on.
     Size(usize),
-    // A write failed.
-    Broken,
+    // A write failed, for this reason.
+    Broken(io::Error),
 }
 
 // What opening the recording gives.
-#[derive(Drop)]
+#[derive(Clone, Copy)]
 enum Opening {
     Unreadable,
     // A capture with numbers in this order; the window behind its header is from the first offset to the second.
@@ -88,7 +93,7 @@ fn ended(content: Content) -> Gathered
 }
 
 // Reads until the window, which is at the room's front, has as many bytes as are wanted.
-fn fill(fd: i32, room: &mut [u8], have: usize, want: usize) -> Gathered
+fn fill<F: Read>(file: &mut F, room: &mut [u8], have: usize, want: usize) -> Gathered
     requires have_in_bounds { have ≤ length room.old }
     requires want_in_bounds { want ≤ length room.old }
     ensures gathered { Gathers (take have room.old) want room.new result }
@@ -96,7 +101,7 @@ fn fill(fd: i32, room: &mut [u8], have: usize, want: usize) -> Gathered
 {
     let mut size = have;
     while size < want {
-        let progress = program_files::read_more(fd, room, size);
+        let progress = program_files::read_more(file, room, size);
         match progress {
             Progress::Ended(content) => return ended(content),
             Progress::More(more) => size = more,
@@ -106,7 +111,7 @@ fn fill(fd: i32, room: &mut [u8], have: usize, want: usize) -> Gathered
 }
 
 // Sees to it that the window has as many bytes as are wanted.
-fn gather(fd: i32, room: &mut [u8], from: usize, have: usize, want: usize) -> Gathered
+fn gather<F: Read>(file: &mut F, room: &mut [u8], from: usize, have: usize, want: usize) -> Gathered
     requires from_le_have { from ≤ have }
     requires have_in_bounds { have ≤ length room.old }
     requires want_in_bounds { want ≤ length room.old }
@@ -116,12 +121,12 @@ fn gather(fd: i32, room: &mut [u8], from: usize, have: usize, want: usize) -> Ga
         return Gathered::Window(from, have);
     }
     let size = move_front(room, from, have);
-    fill(fd, room, size, want)
+    fill(file, room, size, want)
 }
 
 // Gathers a frame of so many bytes, which had `original`.
-fn gather_frame(
-    fd: i32,
+fn gather_frame<F: Read>(
+    file: &mut F,
     room: &mut [u8],
     from: usize,
     have: usize,
@@ -133,7 +138,7 @@ fn gather_frame(
     requires captured_in_bounds { captured ≤ length room.old }
     ensures { FrameGathers (window room.old from have) room.new captured original result }
 {
-    let gathered = gather(fd, room, from, have, captured);
+    let gathered = gather(file, room, from, have, captured);
     match gathered {
         Gathered::Failed => Next::Failed,
         Gathered::Ended(left) => Next::Cut,
@@ -142,13 +147,19 @@ fn gather_frame(
 }
 
 // Takes the header of the next record, and then gathers its frame: so the largest frame fits the room.
-fn next_record(fd: i32, order: Order, room: &mut [u8], from: usize, have: usize) -> Next
+fn next_record<F: Read>(
+    file: &mut F,
+    order: Order,
+    room: &mut [u8],
+    from: usize,
+    have: usize,
+) -> Next
     requires from_le_have { from ≤ have }
     requires have_in_bounds { have ≤ length room.old }
     requires frame_most_in_bounds { frame_most ≤ length room.old }
     ensures { NextIs order (window room.old from have) room.new result }
 {
-    let gathered = gather(fd, room, from, have, RECORD_HEADER_SIZE);
+    let gathered = gather(file, room, from, have, RECORD_HEADER_SIZE);
     match gathered {
         Gathered::Failed => Next::Failed,
         Gathered::Ended(left) => {
@@ -163,7 +174,7 @@ fn next_record(fd: i32, order: Order, room: &mut [u8], from: usize, have: usize)
             let RecordHeader::Frame(captured, original) = header else {
                 return Next::Cut;
             };
-            gather_frame(fd, room, behind, end, captured, original)
+            gather_frame(file, room, behind, end, captured, original)
         }
     }
 }
@@ -208,7 +219,7 @@ fn judge_frame(
 }
 
 // Writes the lines that wait if there may be no room for one more.
-fn make_room(out: &[u8], size: usize) -> Waiting
+fn make_room<P: Print>(rt: &P, out: &[u8], size: usize) -> Waiting
     requires numbered_most_in_bounds { numbered_most ≤ length out.now }
     requires size_in_bounds { size ≤ length out.now }
     ensures left { RoomMade size (length out.now) result }
@@ -217,10 +228,10 @@ fn make_room(out: &[u8], size: usize) -> Waiting
     if size <= out.len() - NUMBERED_MOST {
         return Waiting::Size(size);
     }
-    if !io::write_all(STDOUT_FILENO, &out[..size]) {
-        return Waiting::Broken;
+    match rt.write_all(&out[..size]) {
+        Ok(()) => Waiting::Size(0),
+        Err(error) => Waiting::Broken(error),
     }
-    Waiting::Size(0)
 }
 
 // Whether the line `cut` is written where this comes next.
@@ -249,8 +260,9 @@ fn add_end(out: &mut [u8], size: usize, next: Next) -> usize
 
 // Judges the records of a capture, of which the room holds the window behind the file's header. The lines that it returns wait to be written. A write
 // that fails ends it, and so would record number 2^64 - 1, which no file has.
-fn judge_records(
-    fd: i32,
+fn judge_records<F: Read, P: Print>(
+    file: &mut F,
+    rt: &P,
     order: Order,
     room: &mut [u8],
     start: usize,
@@ -279,7 +291,7 @@ fn judge_records(
     let mut from = start;
     let mut have = held;
     while number < u64::MAX {
-        let next = next_record(fd, order, room, from, have);
+        let next = next_record(file, order, room, from, have);
         let Next::Record(at, end, original, until) = next else {
             return Waiting::Size(add_end(out, size, next));
         };
@@ -298,9 +310,10 @@ fn judge_records(
             sent,
             rows,
         );
-        let waiting = make_room(out, added);
-        let Waiting::Size(left) = waiting else {
-            return Waiting::Broken;
+        let waiting = make_room(rt, out, added);
+        let left = match waiting {
+            Waiting::Size(left) => left,
+            Waiting::Broken(error) => return Waiting::Broken(error),
         };
         size = left;
         from = end;
@@ -309,22 +322,22 @@ fn judge_records(
     Waiting::Size(size)
 }
 
-// Writes the lines that wait.
-fn finish(out: &[u8], waiting: Waiting)
+// Writes the lines that wait, or hands on why a write failed.
+fn finish<P: Print>(rt: &P, out: &[u8], waiting: Waiting) -> io::Result<()>
     requires { WaitsWithin (length out.now) waiting }
 {
-    let Waiting::Size(size) = waiting else {
-        return;
-    };
-    io::write_all(STDOUT_FILENO, &out[..size]);
+    match waiting {
+        Waiting::Size(size) => rt.write_all(&out[..size]),
+        Waiting::Broken(error) => Err(error),
+    }
 }
 
 // Looks at the header of an open file.
-fn open_capture(fd: i32, room: &mut [u8]) -> Opening
+fn open_capture<F: Read>(file: &mut F, room: &mut [u8]) -> Opening
     requires { file_header_size ≤ length room.old }
     ensures { OpensAs room.new result }
 {
-    let gathered = fill(fd, room, 0, FILE_HEADER_SIZE);
+    let gathered = fill(file, room, 0, FILE_HEADER_SIZE);
     let Gathered::Window(at, have) = gathered else {
         return Opening::Unreadable;
     };
@@ -336,14 +349,15 @@ fn open_capture(fd: i32, room: &mut [u8]) -> Opening
     }
 }
 
-fn write_unreadable() {
+fn write_unreadable<P: Print>(rt: &P) -> io::Result<()> {
     let mut out = [0u8; LINE_MOST];
     let size = verdict_line::write_line(&mut out, Line::Unreadable);
-    io::write_all(STDOUT_FILENO, &out[..size]);
+    rt.write_all(&out[..size])
 }
 
 // Judges the recording by the lent book, if there is one.
-fn judge_recording(
+fn judge_recording<R: Files + Print>(
+    rt: &R,
     ids: &[u32],
     lengths: &[u8],
     store: &[u8],
@@ -351,30 +365,27 @@ fn judge_recording(
     received: &mut [u64],
     sent: &[u64],
     rows: usize,
-)
+) -> io::Result<()>
     ensures { let b = book_of ids.now lengths.now store.now marks.old received.old sent.now rows in
         RecordingJudged b marks.new received.new }
 {
-    let fd = os::open_read(b"church.pcap");
-    if fd < 0 {
-        write_unreadable();
-        return;
-    }
+    let Ok(mut file) = File::open(rt, "church.pcap") else {
+        return write_unreadable(rt);
+    };
     let mut room = [0u8; ROOM];
-    let opening = open_capture(fd, &mut room);
+    let opening = open_capture(&mut file, &mut room);
     let Opening::Capture(order, from, have) = opening else {
-        write_unreadable();
-        return;
+        return write_unreadable(rt);
     };
     let mut out = [0u8; ROOM];
     let waiting = judge_records(
-        fd, order, &mut room, from, have, &mut out, ids, lengths, store, marks, received, sent,
-        rows,
+        &mut file, rt, order, &mut room, from, have, &mut out, ids, lengths, store, marks,
+        received, sent, rows,
     );
-    finish(&out, waiting);
+    finish(rt, &out, waiting)
 }
 
-fn main() {
+fn main(rt: HostRuntime) -> io::Result<()> {
     let mut ids = [0u32; ROWS_MOST];
     let mut lengths = [0u8; ROWS_MOST];
     let mut store = [0u8; ROWS_MOST * SLOT_SIZE];
@@ -382,6 +393,7 @@ fn main() {
     let mut received = [0u64; ROWS_MOST];
     let mut sent = [0u64; ROWS_MOST];
     let loaded = program_files::load_book(
+        &rt,
         &mut ids,
         &mut lengths,
         &mut store,
@@ -390,8 +402,9 @@ fn main() {
         &mut sent,
     );
     match loaded {
-        Loaded::Stopped(line) => write_unreadable(),
+        Loaded::Stopped(line) => write_unreadable(&rt),
         Loaded::Rows(rows) => judge_recording(
+            &rt,
             &ids,
             &lengths,
             &store,

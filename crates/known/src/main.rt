@@ -2,23 +2,38 @@
 // docs/RULES.md, 'A known id'.
 // The argument is judged before the card is looked at. The card is not changed.
 // Here is what is done in which order; the card is read by program_files, and what the argument and the card mean is decided in known_verdict.
+#![tactic(auto)]
+
 ghost use Rattle.known.specs.Program.{SomeCard};
 
 use key_book::{ROWS_MOST, SLOT_SIZE};
 use known_verdict::Asked;
-use libc::STDOUT_FILENO;
 use program_files::FILE_ROOM;
+use std::env::{Env, FillError};
+use std::io;
+use std::rt::Files;
 use verdict_line::{LINE_MOST, Line};
 
+// How many words the program was started with, its own name among them.
+fn count_words(rt: &impl Env) -> usize {
+    for i in 0..usize::MAX {
+        let word = rt.arg(i, &mut []);
+        if let Err(FillError::NotPresent) = word {
+            return i;
+        }
+    }
+    usize::MAX
+}
+
 // What the argument asks for. One that is longer than the room has size 0 there, and no id is empty.
-fn asked() -> Asked {
+fn asked(rt: &impl Env) -> Asked {
     let mut room = [0u8; FILE_ROOM];
-    let size = os::arg(1, &mut room);
-    known_verdict::read_argument(os::arg_count(), size, &room)
+    let size = rt.arg(1, &mut room).unwrap_or(0);
+    known_verdict::read_argument(count_words(rt), size, &room)
 }
 
 // The line for what is asked for. The card is looked at only where that is an id.
-fn asked_line(asked: Asked) -> Line
+fn asked_line<R: Files>(rt: &R, asked: Asked) -> Line
     ensures { SomeCard asked result }
 {
     let Asked::Id(id) = asked else {
@@ -31,6 +46,7 @@ fn asked_line(asked: Asked) -> Line
     let mut received = [0u64; ROWS_MOST];
     let mut sent = [0u64; ROWS_MOST];
     let loaded = program_files::load_book(
+        rt,
         &mut ids,
         &mut lengths,
         &mut store,
@@ -41,9 +57,9 @@ fn asked_line(asked: Asked) -> Line
     known_verdict::known_line(loaded, &ids, id)
 }
 
-fn main() {
-    let line = asked_line(asked());
+fn main(rt: HostRuntime) -> io::Result<()> {
+    let line = asked_line(&rt, asked(&rt));
     let mut out = [0u8; LINE_MOST];
     let size = verdict_line::write_line(&mut out, line);
-    io::write_all(STDOUT_FILENO, &out[..size]);
+    rt.write_all(&out[..size])
 }
