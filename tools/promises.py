@@ -6,36 +6,42 @@
 Prints a line for each fault and fails if there is one. Comments never count: they are taken out first. The rules:
 
 Contracts (src/**/*.rt)
- - No function is foreign: the contract of a function without a body is assumed. `pub use` hands on a public function or
-   constant of the crate's own, by its file.
- - Every clause is `⌜ P ⌝`, behind `λ r.` in an `ensures`, and holds no comment. An `ensures` speaks of the result or of what is lent afterwards,
-   and no part of it is trivially true (`x ≡ x`, `A → A`, `(h : x < x) → ..`, `Unit`, ..). This holds of private functions and of programs too.
- - A public function of a library (`pub`, or visible to C; also in an `impl`, also in a deeper file) has no `requires`, but for those of SERVING, which
-   proved code alone calls: none of these is visible to C. Equations fix its result
-   (`r ≡ ..`, or each field of it; of a reference what it refers to and where, `now r ≡ ..` and `r .ptr ≡ ..`) and what is behind each `&mut` afterwards
-   (`now (p .exit) ≡ ..`, perhaps as an argument of what builds a record of its arguments). Such an equation stands under no premise. Its right side
-   names a definition of specs/ and, unless all is lent for writing, a parameter; it names neither the result nor anything `.exit`. Every word of it
-   is known. Every clause names a definition of specs/; every parameter stands in an equation; no parameter hides a name. Behind `λ r.` no name
-   is bound but by a `let x = .. in` at the clause's front, and that name is nobody else's.
+ - No function is foreign: the contract of a function without a body is assumed. `pub use` hands on a public function or constant of the crate's own, by
+   its file and under its name.
+ - Every `requires` and `ensures` is a plain fact, with no star, and holds no comment. An `ensures` speaks of the result or of what is lent afterwards
+   (`p.new`); no part of it is trivially true (`x ≡ x`, `A → A`, `(h : x < x) → ..`, `¬ (x < x)`, `Unit`, a type of numbers, ..) or left to be found (`_`, a
+   tactic); it names nothing by a path and no operator by its whole name. This holds of private functions and of programs too.
+ - A public function of a library (`pub`, of a trait, or visible to C; also in an `impl`, also in a deeper file) has no `requires`, but for those of
+   SERVING, which proved code alone calls: none of these is visible to C. Equations fix its result (`result ≡ ..`, or each field of it; of a reference
+   what it refers to and where, `result.now ≡ ..` and `result.ref_ptr ≡ ..`) and what is behind each `&mut` afterwards (`p.new ≡ ..`, perhaps as an
+   argument of what builds a record of its arguments). Such an equation stands under no premise and is no one of several answers. Its right side names a
+   definition of specs/ and, unless all is lent for writing, a parameter; it names neither the result nor anything afterwards (`.new`, `.exit`). Every
+   word of it is known. Every clause names a definition of specs/; every parameter stands in an equation; no parameter, of a type's or a constant's
+   either, hides a name. In a clause no name is bound but by a `let x = .. in` at its front, and that name is nobody else's.
  - The functions of READING alone may lack such equations, since what is read no contract can say. In place of one, under no premise, a definition of
    specs/ is applied to the result, or to what is behind a `&mut` afterwards, or to a term that holds it; or what is behind the `&mut` keeps its length
-   (`length (now (p .exit)) ≡ length (now (p .entry))`). Their clauses need not each name a definition of specs/, nor their equations every parameter.
-   Each is the only public function of its name in its crate, and not visible to C.
+   (`length p.new ≡ length p.old`). Nothing need be said of what is read from, a `&mut` of a type that is known as a reader alone. Their clauses need not
+   each name a definition of specs/, nor their equations every parameter. Each is the only public function of its name in its crate, and not visible to
+   C.
+ - Beside the functions' clauses and the imports nothing is `ghost`: who makes a type owes its ghost fields, and a model hides from clauses what it
+   does not show. No type holds a `&mut`, and no struct has a field of a name that a clause reads of a reference (`now`, `old`, `new`, ..).
 Names (src/ and specs/)
- - The names of LIBRARY come from their library path alone, the names of LENT from nowhere; neither is given another meaning in specs/.
-   Contracts take nothing else from a library, definitions no other operator; specs/ has no operator of its own.
- - An import lists its names and takes each from the file of specs/ that defines it. For contracts it gives none another name (`as`); in specs/ the
-   other name is one that nothing has in src/ or specs/.
+ - The names of LIBRARY come from their library path alone, the names of LENT from nowhere; neither is given another meaning in specs/, nor is the sign
+   of an operator. Contracts take nothing else from a library, definitions no other operator; specs/ has no operator of its own.
+ - An import lists its names and takes each from the file of specs/ that defines it; a source brings in no name twice. For contracts it gives none
+   another name (`as`); in specs/ the other name is one that nothing has in src/ or specs/.
 Definitions and proofs (specs/ and proofs/)
- - No axiom and no hole. Each file is declared by the Lib.antt beside it; each folder of proofs/ belongs to a function.
- - A file of specs/ has no sections. No part of a record, a predicate or a closed statement there is trivially true or left to be found (`_`).
+ - No axiom and no hole. Each file is declared by the Lib.antt beside it; each folder of proofs/ belongs to a function, or to a cycle of functions, and
+   has a whole proof or what the prover asks for.
+ - A file of specs/ has no sections and none of the words of UNREAD, and names nothing by a path and no operator by its whole name. No part of a record,
+   a predicate or a closed statement there is trivially true or left to be found.
 Statements
  - A theorem of THEOREMS stands once in its file, at the left margin, with its statement alone for a type and its proof right behind. The file imports
    the statement from the file of specs/ that defines it, closed (`Type 0`, no parameters) and no data type, and nothing else has its name.
  - Every closed type of specs/ is the statement of a listed theorem or stands in DATA. What the files of VECTOR_FILES prove is listed, but for what
    serves another proof there. The tables name only what is there.
 Must-fail edits
- - A line that names the slip, a file of src/ or specs/, and pairs of lines: the old one occurs once, the new one differs.
+ - A line that names the slip, a file of src/ or specs/, and pairs of lines: the old one occurs once in what the pairs before made, the new one differs.
 """
 import pathlib
 import re
@@ -43,123 +49,136 @@ import sys
 from dataclasses import dataclass, field
 
 sys.dont_write_bytecode = True
-from rattle_text import AnttSource, RattleSource, antt_tokens, arguments, bare, bound_types, canonical, groups, outside, split_words
+from rattle_text import (
+    AnttSource,
+    RattleSource,
+    antt_tokens,
+    arguments,
+    bare,
+    bound_types,
+    canonical,
+    groups,
+    head,
+    heads,
+    outside,
+    split_words,
+)
 
 # crate, proof file, theorem, its statement: the one place where the statement is proved.
 THEOREMS = [
-    ("refusal", "Names", "numbers-tell", "NumbersTell"),
-    ("octets", "Computed", "octet-examples", "OctetExamples"),
-    ("md5", "Promises", "any-cutting", "AnyCutting"),
-    ("md5", "Promises", "pieces-taken", "PiecesTaken"),
-    ("md5", "Promises", "tail-zero", "TailZero"),
-    ("md5", "Promises", "refused-kept", "RefusedKept"),
-    ("md5", "Promises", "padded-size", "PaddedSize"),
-    ("md5", "Vectors", "md5-vectors", "Md5Vectors"),
-    ("md5", "Limits", "md5-limits", "Md5Limits"),
-    ("hmac_md5", "Vectors", "hmac-vectors", "HmacVectors"),
-    ("hmac_md5", "Limits", "hmac-limits", "HmacLimits"),
-    ("dhcp_message", "Decoding", "round-trips", "RoundTrips"),
-    ("dhcp_message", "Lowest", "lowest-given", "LowestGiven"),
-    ("dhcp_message", "Lowest", "shape-given", "ShapeGiven"),
-    ("dhcp_message", "Typing", "type-says", "TypeSays"),
-    ("dhcp_message", "Seals", "form-says", "FormSays"),
-    ("dhcp_message", "Relays", "relay-keeps", "RelayKeeps"),
-    ("dhcp_message", "Relays", "relay-may", "RelayMay"),
-    ("dhcp_message", "Seals", "seal-laws", "SealLaws"),
-    ("dhcp_message", "Replays", "new-says", "NewSays"),
-    ("dhcp_message", "Examples", "bench-examples", "BenchExamples"),
-    ("dhcp_message", "Examples", "layout-pinned", "LayoutPinned"),
-    ("key_book", "Says", "sized-says", "SizedSays"),
-    ("key_book", "Says", "mark-fits-says", "MarkFitsSays"),
-    ("key_book", "Says", "sound-says", "SoundSays"),
-    ("key_book", "Says", "row-says", "RowSays"),
-    ("key_book", "Says", "rows-within", "RowsWithin"),
-    ("key_book", "Says", "key-says", "KeySays"),
-    ("key_book", "Says", "sound-depends", "SoundDepends"),
-    ("key_book", "Says", "row-depends", "RowDepends"),
-    ("key_book", "Says", "key-depends", "KeyDepends"),
-    ("key_book", "Halves", "known-says", "KnownSays"),
-    ("key_book", "Halves", "row-holds", "RowHolds"),
-    ("key_book", "Halves", "ascending-finds", "AscendingFinds"),
-    ("key_book", "Halves", "known-depends", "KnownDepends"),
-    ("key_book", "Looks", "digits-say", "DigitsSay"),
-    ("key_book", "Looks", "few-looks", "FewLooks"),
-    ("key_book", "Computed", "example-10", "Example10"),
-    ("key_book", "Computed", "book-limits", "BookLimits"),
-    ("key_book", "Computed", "marks-pinned", "MarksPinned"),
-    ("key_book", "Computed", "example-12", "Example12"),
-    ("forcerenew", "Soundness", "rows-say", "RowsSay"),
-    ("forcerenew", "Offsets", "offsets-say", "OffsetsSay"),
-    ("forcerenew", "Computed", "nonce-examples", "NonceExamples"),
-    ("book_card", "Says", "front-says", "FrontSays"),
-    ("book_card", "Says", "card-says", "CardSays"),
-    ("book_card", "Says", "malformed-says", "MalformedSays"),
-    ("card_laws", "ByRow", "read-says", "ReadSays"),
-    ("card_laws", "Largest", "largest-card", "LargestCard"),
-    ("card_laws", "Trips", "write-then-read", "WriteThenRead"),
-    ("card_laws", "Trips", "read-then-write", "ReadThenWrite"),
-    ("card_laws", "Moved", "read-then-write-moves", "ReadThenWriteMoves"),
-    ("card_laws", "Moved", "move-keeps-rows", "MoveKeepsRows"),
-    ("card_laws", "Moved", "move-copies", "MoveCopies"),
-    ("card_laws", "Moved", "there-and-back", "ThereAndBack"),
-    ("card_laws", "Depends", "write-depends", "WriteDepends"),
-    ("card_laws", "Computed", "example-1", "Example1"),
-    ("card_laws", "Computed", "example-2", "Example2"),
-    ("card_laws", "Computed", "marked-cards", "MarkedCards"),
-    ("card_laws", "Computed", "ordered-bytes", "OrderedBytes"),
-    ("card_laws", "Computed", "front-example", "FrontExample"),
-    ("card_pieces", "Limits", "within-says", "WithinSays"),
-    ("card_pieces", "Limits", "ended-says", "EndedSays"),
-    ("card_pieces", "Limits", "numbers-back", "NumbersBack"),
-    ("card_pieces", "Joins", "tail-zero", "TailZero"),
-    ("card_pieces", "Depends", "pieces-depend", "PiecesDepend"),
-    ("card_pieces", "Joins", "feed-joins", "FeedJoins"),
-    ("card_pieces", "Good", "good-says", "GoodSays"),
-    ("card_pieces", "Cuttings", "pieces-taken", "PiecesTaken"),
-    ("card_pieces", "Cuttings", "any-cutting", "AnyCutting"),
-    ("card_pieces", "Computed", "pieces-example", "PiecesExample"),
-    ("rimemagpie", "Stated", "state-back", "StateBack"),
-    ("verdict_line", "Says", "decimal-says", "DecimalSays"),
-    ("verdict_line", "Says", "size-within", "SizeWithin"),
-    ("verdict_line", "Says", "longest-line", "LongestLine"),
-    ("verdict_line", "Computed", "line-examples", "LineExamples"),
-    ("file_verdict", "Says", "content-says", "ContentSays"),
-    ("file_verdict", "Says", "line-says", "LineSays"),
-    ("file_verdict", "Computed", "example-9", "Example9"),
-    ("comparison", "Naming", "names-what-differs", "NamesWhatDiffers"),
-    ("comparison", "Equal", "equal-says", "EqualSays"),
-    ("comparison", "RelayOnly", "relay-only-says", "RelayOnlySays"),
-    ("comparison", "Fitting", "lines-fit", "LinesFit"),
-    ("comparison", "Computed", "comparison-example", "ComparisonExample"),
-    ("comparison_verdict", "Says", "report-says", "ReportSays"),
-    ("known_verdict", "Scanning", "argument-says", "ArgumentSays"),
-    ("known_verdict", "Numerals", "id-says", "IdSays"),
-    ("known_verdict", "Says", "known-line-says", "KnownLineSays"),
-    ("known_verdict", "Computed", "id-examples", "IdExamples"),
-    ("known_verdict", "Computed", "known-examples", "KnownExamples"),
-    ("capture", "Headers", "header-says", "HeaderSays"),
-    ("capture", "Headers", "record-header-says", "RecordHeaderSays"),
-    ("capture", "Records", "records-say", "RecordsSay"),
-    ("capture", "Payloads", "payload-says", "PayloadSays"),
-    ("capture", "Computed", "capture-examples", "CaptureExamples"),
-    ("capture_verdict", "Answered", "verdicts-are-answers", "VerdictsAreAnswers"),
-    ("capture_verdict", "Stepped", "by-record", "ByRecord"),
-    ("capture_verdict", "Says", "failure-says", "FailureSays"),
-    ("capture_verdict", "Says", "lines-say", "LinesSay"),
-    ("capture_verdict", "Computed", "recording-example", "RecordingExample"),
-    ("demands", "Demand1", "demand-1", "Demand1"),
-    ("demands", "Demand2", "demand-2", "Demand2"),
-    ("demands", "Demand3", "runs-keep-sound", "RunsKeepSound"),
-    ("demands", "Demand3", "demand-3", "Demand3"),
-    ("demands", "Woven", "woven-is-rearranged", "WovenIsRearranged"),
+    ("refusal", "Names", "numbers_tell", "NumbersTell"),
+    ("octets", "Computed", "octet_examples", "OctetExamples"),
+    ("md5_digest", "Promises", "any_cutting", "AnyCutting"),
+    ("md5_digest", "Promises", "pieces_taken", "PiecesTaken"),
+    ("md5_digest", "Promises", "tail_zero", "TailZero"),
+    ("md5_digest", "Promises", "refused_kept", "RefusedKept"),
+    ("md5_digest", "Promises", "padded_size", "PaddedSize"),
+    ("md5_digest", "Vectors", "md5_vectors", "Md5Vectors"),
+    ("md5_digest", "Limits", "md5_limits", "Md5Limits"),
+    ("hmac_md5", "Vectors", "hmac_vectors", "HmacVectors"),
+    ("hmac_md5", "Limits", "hmac_limits", "HmacLimits"),
+    ("dhcp_message", "Decoding", "round_trips", "RoundTrips"),
+    ("dhcp_message", "Lowest", "lowest_given", "LowestGiven"),
+    ("dhcp_message", "Lowest", "shape_given", "ShapeGiven"),
+    ("dhcp_message", "Typing", "type_says", "TypeSays"),
+    ("dhcp_message", "Seals", "form_says_lem", "FormSays"),
+    ("dhcp_message", "Relays", "relay_keeps", "RelayKeeps"),
+    ("dhcp_message", "Relays", "relay_may", "RelayMay"),
+    ("dhcp_message", "Seals", "seal_laws", "SealLaws"),
+    ("dhcp_message", "Replays", "new_says", "NewSays"),
+    ("dhcp_message", "Examples", "bench_examples", "BenchExamples"),
+    ("dhcp_message", "Examples", "layout_pinned", "LayoutPinned"),
+    ("key_book", "Says", "sized_says", "SizedSays"),
+    ("key_book", "Says", "mark_fits_says", "MarkFitsSays"),
+    ("key_book", "Says", "sound_says", "SoundSays"),
+    ("key_book", "Says", "row_says", "RowSays"),
+    ("key_book", "Says", "rows_within", "RowsWithin"),
+    ("key_book", "Says", "key_says", "KeySays"),
+    ("key_book", "Says", "sound_depends", "SoundDepends"),
+    ("key_book", "Says", "row_depends", "RowDepends"),
+    ("key_book", "Says", "key_depends", "KeyDepends"),
+    ("key_book", "Halves", "known_says", "KnownSays"),
+    ("key_book", "Halves", "row_holds", "RowHolds"),
+    ("key_book", "Halves", "ascending_finds", "AscendingFinds"),
+    ("key_book", "Halves", "known_depends", "KnownDepends"),
+    ("key_book", "Looks", "digits_say", "DigitsSay"),
+    ("key_book", "Looks", "few_looks", "FewLooks"),
+    ("key_book", "Computed", "example_10", "Example10"),
+    ("key_book", "Computed", "book_limits", "BookLimits"),
+    ("key_book", "Computed", "marks_pinned", "MarksPinned"),
+    ("key_book", "Computed", "example_12", "Example12"),
+    ("forcerenew", "Soundness", "rows_say", "RowsSay"),
+    ("forcerenew", "Offsets", "offsets_say", "OffsetsSay"),
+    ("forcerenew", "Computed", "nonce_examples", "NonceExamples"),
+    ("book_card", "Says", "front_says", "FrontSays"),
+    ("book_card", "Says", "card_says", "CardSays"),
+    ("book_card", "Says", "malformed_says", "MalformedSays"),
+    ("card_laws", "ByRow", "read_says", "ReadSays"),
+    ("card_laws", "Largest", "largest_card", "LargestCard"),
+    ("card_laws", "Trips", "write_then_read", "WriteThenRead"),
+    ("card_laws", "Trips", "read_then_write", "ReadThenWrite"),
+    ("card_laws", "Moved", "read_then_write_moves", "ReadThenWriteMoves"),
+    ("card_laws", "Moved", "move_keeps_rows", "MoveKeepsRows"),
+    ("card_laws", "Moved", "move_copies", "MoveCopies"),
+    ("card_laws", "Moved", "there_and_back", "ThereAndBack"),
+    ("card_laws", "Depends", "write_depends", "WriteDepends"),
+    ("card_laws", "Computed", "example_1", "Example1"),
+    ("card_laws", "Computed", "example_2", "Example2"),
+    ("card_laws", "Computed", "marked_cards", "MarkedCards"),
+    ("card_laws", "Computed", "ordered_bytes", "OrderedBytes"),
+    ("card_laws", "Computed", "front_example", "FrontExample"),
+    ("card_pieces", "Limits", "within_says", "WithinSays"),
+    ("card_pieces", "Limits", "ended_says", "EndedSays"),
+    ("card_pieces", "Limits", "numbers_back", "NumbersBack"),
+    ("card_pieces", "Joins", "tail_zero", "TailZero"),
+    ("card_pieces", "Depends", "pieces_depend", "PiecesDepend"),
+    ("card_pieces", "Joins", "feed_joins", "FeedJoins"),
+    ("card_pieces", "Good", "good_says", "GoodSays"),
+    ("card_pieces", "Cuttings", "pieces_taken", "PiecesTaken"),
+    ("card_pieces", "Cuttings", "any_cutting", "AnyCutting"),
+    ("card_pieces", "Computed", "pieces_example", "PiecesExample"),
+    ("rimemagpie", "Stated", "state_back", "StateBack"),
+    ("verdict_line", "Says", "decimal_says", "DecimalSays"),
+    ("verdict_line", "Says", "size_within_lem", "SizeWithin"),
+    ("verdict_line", "Says", "longest_line", "LongestLine"),
+    ("verdict_line", "Computed", "line_examples", "LineExamples"),
+    ("file_verdict", "Says", "content_says", "ContentSays"),
+    ("file_verdict", "Says", "line_says", "LineSays"),
+    ("file_verdict", "Computed", "example_9", "Example9"),
+    ("comparison", "Naming", "names_what_differs", "NamesWhatDiffers"),
+    ("comparison", "Equal", "equal_says", "EqualSays"),
+    ("comparison", "RelayOnly", "relay_only_says", "RelayOnlySays"),
+    ("comparison", "Fitting", "lines_fit", "LinesFit"),
+    ("comparison", "Computed", "comparison_example", "ComparisonExample"),
+    ("comparison_verdict", "Says", "report_says", "ReportSays"),
+    ("known_verdict", "Scanning", "argument_says", "ArgumentSays"),
+    ("known_verdict", "Numerals", "id_says", "IdSays"),
+    ("known_verdict", "Says", "known_line_says", "KnownLineSays"),
+    ("known_verdict", "Computed", "id_examples", "IdExamples"),
+    ("known_verdict", "Computed", "known_examples", "KnownExamples"),
+    ("capture", "Headers", "header_says", "HeaderSays"),
+    ("capture", "Headers", "record_header_says", "RecordHeaderSays"),
+    ("capture", "Records", "records_say", "RecordsSay"),
+    ("capture", "Payloads", "payload_says", "PayloadSays"),
+    ("capture", "Computed", "capture_examples", "CaptureExamples"),
+    ("capture_verdict", "Answered", "verdicts_are_answers", "VerdictsAreAnswers"),
+    ("capture_verdict", "Stepped", "by_record", "ByRecord"),
+    ("capture_verdict", "Says", "failure_says", "FailureSays"),
+    ("capture_verdict", "Says", "lines_say", "LinesSay"),
+    ("capture_verdict", "Computed", "recording_example", "RecordingExample"),
+    ("demands", "Demand1", "demand_1", "Demand1"),
+    ("demands", "Demand2", "demand_2", "Demand2"),
+    ("demands", "Demand3", "runs_keep_sound", "RunsKeepSound"),
+    ("demands", "Demand3", "demand_3", "Demand3"),
+    ("demands", "Woven", "woven_is_rearranged", "WovenIsRearranged"),
     ("demands", "Dependence", "dependence", "Dependence"),
-    ("demands", "LastCounter", "last-counter", "LastCounter"),
+    ("demands", "LastCounter", "last_counter", "LastCounter"),
     ("demands", "History", "history", "History"),
-    ("demands", "Bench", "bench-table", "BenchTable"),
+    ("demands", "Bench", "bench_table", "BenchTable"),
     ("worked_runs", "Shuffled", "shuffled", "Shuffled"),
     ("worked_runs", "Crossed", "crossed", "Crossed"),
-    ("worked_runs", "MoreNumbers", "more-numbers", "MoreNumbers"),
-    ("worked_runs", "OtherBooks", "other-books", "OtherBooks"),
+    ("worked_runs", "MoreNumbers", "more_numbers", "MoreNumbers"),
+    ("worked_runs", "OtherBooks", "other_books", "OtherBooks"),
 ]
 
 # crate and name of the closed records that are data and state nothing.
@@ -189,6 +208,9 @@ READING = [
     ("program_files", "load_book"),
 ]
 
+# The files of a function's proof: written whole, or what the prover asks for.
+PROOF_FILES = ("Proof", "Invariants", "Answers")
+
 # Proof files of examples and of the RFCs' vectors: everything that they prove is a listed statement.
 VECTOR_FILES = ("Vectors", "Computed", "Examples")
 
@@ -196,28 +218,41 @@ VECTOR_FILES = ("Vectors", "Computed", "Examples")
 LIBRARY = {
     name: path
     for path, names in {
-        "mathlib.Core.Path": "_≡_",
-        "mathlib.Core.Logic": "_↔_ _≢_ _⊎_",
-        "mathlib.Core.Bool": "Bool true false cond _&&_ _||_",
-        "mathlib.Core.Option": "Option none some Option·getD",
-        "mathlib.Core.List": "List [] _∷_ _++_ map",
-        "Prim.Native.Nat": "ℕ zero suc _+_ _-_ _*_ _/_ _%_ _^_ _<_ _≤_",
-        "lib.ListN": "length getD getElem? take drop replicate set",
-        "lib.Dec": "ltb leb eqb",
-        "lib.Bits": "bitAnd bitOr bitXor",
+        "Rattle.std.specs.Prelude": """
+            ◌≡◌ ◌↔◌ ◌≢◌ ◌⊎◌ Bool true false cond not ◌&&◌ ◌||◌ List [] ◌∷◌ ◌++◌ map
+            ℕ zero suc ◌+◌ ◌-◌ ◌*◌ ◌/◌ ◌%◌ ◌^◌ ◌<◌ ◌≤◌ ℤ pos negsuc
+            length get_or slice_index take drop replicate set ltb leb eqb bit_and bit_or bit_xor
+            ◌==◌ IsTrue IsFalse IsSome IsNone IsOk IsErr IfSome IfNone IfOk IfErr OnSome OnOk OnErr""",
+        "Rattle.std.proofs.Math.Option": "Option none some",
+        "Rattle.std.proofs.Math.ListN": "get_elem?",
     }.items()
     for name in names.split()
 }
 # Of these the ones that a definition's left side may hold, as patterns.
-CONSTRUCTORS = set("true false none some [] _∷_ zero suc".split())
+CONSTRUCTORS = set("true false none some [] ∷ zero suc pos negsuc".split())
+# The words that the operators of LIBRARY stand between their arguments as.
+SIGNS = {sign for name in LIBRARY if "◌" in name for sign in name.split("◌") if sign}
 # What every clause and definition has without an import.
-LENT = set("now _×_ × ⌜_⌝ Unit ⊥ Type → .entry .exit .ptr".split())
+LENT = set("result ◌×◌ × ¬◌ ¬ Unit tt ⊥ absurd Type →".split())
+# What a clause reads of a reference: what is behind it now, before the call and afterwards, itself as it was lent and afterwards, where it points.
+OF_REFERENCES = ("now", "old", "new", "entry", "exit", "ref_ptr", "ghost_name")
 
 # The operators of LIBRARY that bind tighter than an equation.
-TIGHT = set("+ - * / % ^ ++ ∷ && ||".split())
-RELATIONS = ("≡", "≤", "↔")
+TIGHT = set("+ - * / % ^ ++ ∷ && || ==".split())
+RELATIONS = ("≡", "≤", "↔", "==")
+# Tests that are decided.
+TRUE = (["IsTrue", "true"], ["IsFalse", "false"], ["T", "true"])
+FALSE = (["IsTrue", "false"], ["IsFalse", "true"], ["T", "false"])
+# What binds looser than `×`: around it a product is no list of parts.
+LOOSER = ("→", "↔", "⊎")
 # The words of antt that give a name a meaning inside a term.
 BINDERS = (":", "λ", "∀", "let", "do", "←", "elim")
+# The words of antt that have a term found: what it means is then not in the text.
+TACTICS = set("rw rw⁻¹ simp search grw cc omega grind hlevel assumption first_of".split())
+# The words of antt that name a thing in ways that these rules don't read, or have operators bind otherwise: specs/ does without.
+UNREAD = ("open", "do", "deriving", "pattern", "mutual", "infix", "infixl", "infixr")
+# What the path of a name begins with, where it is written in a term and not imported.
+ROOTS = ("Rattle", "package", "mathlib", "lib", "native", "Prim", "mir", "borrow", "denote")
 # What stands at the left margin of a file of specs/.
 SORTS = ("use", "mod", "signature", "clause", "record", "data")
 
@@ -269,10 +304,8 @@ def trivial_parts(words):
         if any(never_holds(premise) or any(same(premise, end) for end in ends) for premise in premises):
             yield " ".join(group)
         for part in split_words(group, ("→", "×", "⊎", ",", ";", "=", ":", "in")):
-            for relation in RELATIONS:
-                sides = split_words(part, (relation,))
-                if len(sides) == 2 and sides[0] and same(*sides):
-                    yield " ".join(part)
+            if always_holds(part):
+                yield " ".join(part)
 
 
 def implication(words):
@@ -291,12 +324,26 @@ def premises_in(words):
     return parts if parts == [words] else [premise for part in parts for premise in premises_in(part)]
 
 
+def always_holds(words):
+    """`x ≡ x`, `x ≤ x`, `0 ≤ x`, `A ↔ A`, `IsTrue true`, or that what never holds does not."""
+    pairs = [split_words(words, (relation,)) for relation in RELATIONS]
+    at_most = split_words(words, ("≤",))
+    return (
+        any(len(sides) == 2 and sides[0] and same(*sides) for sides in pairs)
+        or len(at_most) == 2 and canonical(at_most[0]) in (["0"], ["zero"])
+        or words in TRUE
+        or words[:1] == ["¬"] and never_holds(bare(words[1:]))
+    )
+
+
 def never_holds(words):
-    """`⊥`, or plainly as much: `x ≢ x`, `x < x`, `x < 0`, `0 ≡ 1`, `true ≡ false`."""
+    """`⊥`, or plainly as much: `x ≢ x`, `x < x`, `x < 0`, `0 ≡ 1`, `true ≡ false`, `¬ (x ≡ x)`."""
     unequal, less, equal = ([canonical(side) for side in split_words(words, (relation,))] for relation in ("≢", "<", "≡"))
     return (
         words == ["⊥"]
         or words[:2] == ["⊥", "{"]
+        or words in FALSE
+        or words[:1] == ["¬"] and (always_holds(bare(words[1:])) or is_unit(words[1:]))
         or any(len(sides) == 2 and sides[0] == sides[1] for sides in (unequal, less))
         or len(less) == 2 and less[1] in (["0"], ["zero"])
         or len(equal) == 2 and equal[0] != equal[1] and all(is_literal(side) for side in equal)
@@ -313,7 +360,16 @@ def same(one, other):
 
 def is_proposition(words):
     """Not the type of a number or a list, which a function may take and give."""
-    return bare(words)[:1] not in (["ℕ"], ["Bool"], ["List"], ["Option"])
+    return bare(words)[:1] not in (["ℕ"], ["ℤ"], ["Bool"], ["List"], ["Option"], ["Type"])
+
+
+def is_unit(words):
+    """Whatever is given, there is nothing to show."""
+    return any(bare(part)[:1] in (["Unit"], ["⊤"]) for part in split_words(conclusion_of(words), ("⊎",)))
+
+
+def conclusion_of(words):
+    return bare(split_words(bare(words), ("→",))[-1])
 
 
 # ---- contracts
@@ -327,11 +383,16 @@ def without_let(words):
         return words, []
     name, end = words[1], next((place for place, word in enumerate(words) if word == "in"), len(words))
     value, rest = words[3:end], words[end + 1 :]
-    plain = re.fullmatch(r"[a-z][A-Za-z0-9]*", name) and value and not {"=", ";", "_", *BINDERS} & {*value}
-    if not plain or not whole(value) or name not in rest:
+    plain = re.fullmatch(r"[a-z]\w*", name) and value and not {"=", ";", "_", *BINDERS} & {*value}
+    if not plain or not whole(value) or name not in heads(rest):
         return words, []
-    body, names = without_let([w for word in rest for w in (["(", *value, ")"] if word == name else [word])])
+    body, names = without_let([w for word in rest for w in put_in(word, name, value)])
     return body, [name, *names]
+
+
+def put_in(word, name, value):
+    """The value in a word's place, if the word is the name or a field of what it names."""
+    return ["(", *value, ")", *(f".{each}" for each in word.split(".")[1:])] if head(word) == name else [word]
 
 
 def whole(words):
@@ -345,19 +406,18 @@ def whole(words):
 
 
 def parts_of(words):
-    """The parts of a product, with a `let` put in for its name. An implication is one part."""
+    """The parts of a product, with a `let` put in for its name. An implication is one part, and so is what else binds looser than a product."""
     words, _ = without_let(words)
-    if outside(words, ("→",)) or not outside(words, ("×",)):
+    if outside(words, LOOSER) or not outside(words, ("×",)):
         return [words]
     return [part for piece in split_words(words, ("×",)) for part in parts_of(piece)]
 
 
 @dataclass
 class Reading:
-    """An `ensures` taken apart: the name of the result, the words of what is said, with each `let` at its front put in, the names of these, and what
-    stands under no premise: the equations, and the other parts, which hold none."""
+    """An `ensures` taken apart: the words of what is said, with each `let` at its front put in, the names of these, and what stands under no premise:
+    the equations, and the other parts, which hold none."""
 
-    result: str
     words: list
     lets: list
     equations: list
@@ -366,36 +426,50 @@ class Reading:
     @classmethod
     def of(cls, clause, known):
         """`known` are the names that an equation may hold; another may be an operator that takes the equation apart."""
-        words = antt_tokens(clause.text)
-        if words[:1] + words[2:4] + words[-1:] != ["λ", ".", "⌜", "⌝"] or words.count("⌜") + words.count("⌝") != 2:
-            return None
-        said, lets = without_let(words[4:-1])
-        plain = known | TIGHT | {words[1], "now", "(", ")", "≡"}
-        sides = [split_words(part, ("≡",)) for part in parts_of(said) if all(word in plain or re.match(r"\.|\d", word) for word in part)]
+        said, lets = without_let(antt_tokens(clause.text))
+        plain = known | TIGHT | {"result", "(", ")", "≡"}
+        sides = [split_words(part, ("≡",)) for part in parts_of(said) if all(head(word) in plain or re.match(r"\.|\d", word) for word in part)]
         others = [canonical(part) for part, *more in sides if part and not more and "≡" not in part]
-        return cls(words[1], said, lets, [pair for pair in sides if len(pair) == 2], others)
+        return cls(said, lets, [pair for pair in sides if len(pair) == 2], others)
 
 
 def contract_faults(crates, lists):
     for crate in crates.values():
         for path, source in crate.src.items():
-            imported = imports(crate, crates, source)
+            imported = imports(crates, source)
+            for line, fault in source_faults(source):
+                yield f"{crate.place(path, line)}: {fault}"
             for function in source.functions:
                 place = f"{crate.place(path, function.line)}: fn {function.name}"
                 if function.foreign:
                     yield f"{place} has no body: its contract would be assumed"
                 for clause in function.clauses:
-                    for fault in clause_faults(clause, {*imported}):
+                    for fault in clause_faults(clause, function):
                         yield f"{place}, line {clause.line}: {fault}"
                 if function.public and path != "src/main.rt":
                     reads = (crate.name, function.name) in lists.reading and not function.owner
                     for fault in public_faults(function, imported, source.structs, crate.name in SERVING, reads):
                         yield f"{place} {fault}"
+    yield from reading_faults(crates, lists)
+
+
+def reading_faults(crates, lists):
     for crate_name, name in lists.reading:
         sources = crates[crate_name].src.values() if crate_name in crates else []
         found = [each for source in sources for each in source.functions if each.name == name and each.public]
         if len(found) != 1 or found[0].owner:
             yield f"{crate_name} has {len(found)} public functions `{name}`, where one, in no `impl`, is listed as one that reads"
+
+
+def source_faults(source):
+    """What stands beside the functions and changes what a clause reads."""
+    for line in source.ghosts():
+        yield line, "`ghost` is no import and no clause of a function: what a clause reads of the type, or a caller owes, would stand elsewhere"
+    for name, line in source.lending_types():
+        yield line, f"`{name}` holds a `&mut`: of what it lends no contract is asked"
+    for name, fields in source.structs.items():
+        for each in sorted({*fields} & {*OF_REFERENCES}):
+            yield 1, f"struct {name} has a field `{each}`, which a clause reads of a reference"
 
 
 def handed_on_faults(crates):
@@ -409,35 +483,43 @@ def handed_on_faults(crates):
                     yield f"{crate.place(path, line)}: `pub use {named}` names no public function or constant of this crate's own"
 
 
-def clause_faults(clause, known):
+def clause_faults(clause, function):
+    words = antt_tokens(clause.text)
     if clause.commented:
         yield "a clause holds a comment"
-    if clause.kind != "ensures":
-        if clause.kind == "requires" and not re.fullmatch(r"\s*⌜[^⌜⌝]*⌝\s*", clause.text):
-            yield "the clause is not of the form `⌜ .. ⌝`"
-        return
-    reading = Reading.of(clause, known)
-    if not reading:
-        yield "the clause is not of the form `λ r. ⌜ .. ⌝`"
-        return
-    if reading.result not in reading.words and ".exit" not in reading.words:
+    if clause.starred or {"⌜", "⌝"} & {*words}:
+        yield "the clause is no plain fact"
+    elif clause.kind == "ensures":
+        yield from said_clause_faults(Reading.of(clause, set()).words, function)
+
+
+def said_clause_faults(words, function):
+    lent = [parameter.name for parameter in function.parameters if parameter.lent_mutably]
+    if not any(speaks_of(words, name) for name in ("", *lent)):
         yield "the clause speaks neither of the result nor of what is lent afterwards"
-    for part in trivial_parts(reading.words):
+    for part in trivial_parts(words):
         yield f"`{part}` is trivially true"
-    if any(is_unit(part) for part in parts_of(reading.words)):
+    if any(is_unit(part) or not is_proposition(conclusion_of(part)) for part in parts_of(words)):
         yield "the clause says nothing"
-    if leaves_open(reading.words):
-        yield "`_` stands for whatever makes the clause true"
-    for word in reading.words:
-        if "." in word[1:] and word.split(".")[0].split("·")[0] in ("Rattle", "package", "mathlib", "lib", "Prim", "native"):
+    if leaves_open(words):
+        yield "`_`, or a tactic, stands for whatever makes the clause true"
+    yield from path_faults(words)
+
+
+def path_faults(words):
+    """A name by its path, or an operator by its whole name: neither is read as what an import brings."""
+    for word in sorted({*words}):
+        if "." in word[1:] and head(word) in ROOTS:
             yield f"`{word}` is named by its path and not imported"
+        elif "◌" in word:
+            yield f"`{word}` does not stand between its arguments"
 
 
-def imports(crate, crates, source):
+def imports(crates, source):
     """The names that a source's `ghost use` lines bring, each with the file of specs/ that defines it, if one does."""
     found = {}
     for use in source.ghost_uses():
-        owner, module = specs_module(use.path, crate)
+        owner, module = specs_module(use.path)
         definitions = crates[owner].definitions(module) if owner in crates else {}
         for name, alias in use.items:
             found[alias] = crates[owner].specs[f"specs/{module}.antt"] if name in definitions else None
@@ -447,7 +529,19 @@ def imports(crate, crates, source):
 def public_faults(function, imported, structs, serving, reads):
     cited = {name for name, source in imported.items() if source}
     names = [parameter.name for parameter in function.parameters]
-    given = {parameter.name for parameter in function.parameters if not parameter.lent_mutably}
+    readings = [Reading.of(clause, {*imported, *names}) for clause in function.all("ensures") if not clause.starred]
+    yield from head_faults(function, serving, reads)
+    for reading in readings:
+        if not reads and not cited & heads(reading.words):
+            yield f"has an `ensures` that names no definition of specs/: `{' '.join(reading.words)}`"
+        for word in sorted({*BINDERS} & {*reading.words}):
+            yield f"has an `ensures` that binds a name by `{word}`, which may hide the result or a parameter"
+    yield from hiding_faults([*names, *function.generics], [name for reading in readings for name in reading.lets], imported)
+    yield from unfixed_faults(function, readings, imported, structs, reads)
+
+
+def head_faults(function, serving, reads):
+    """What a public function may have at all."""
     if function.all("requires") and not serving:
         yield "has a `requires`"
     if function.for_c and serving:
@@ -459,78 +553,77 @@ def public_faults(function, imported, structs, serving, reads):
     for clause in function.clauses:
         if clause.kind not in ("requires", "ensures"):
             yield f"has a clause `{clause.kind}`"
-    readings = [reading for clause in function.all("ensures") if (reading := Reading.of(clause, {*imported, *names}))]
-    for reading in readings:
-        if not reads and not cited & set(reading.words):
-            yield f"has an `ensures` that names no definition of specs/: `{' '.join(reading.words)}`"
-        for word in sorted({*BINDERS} & {*reading.words}):
-            yield f"has an `ensures` that binds a name by `{word}`, which may hide the result or a parameter"
-    results = {reading.result for reading in readings}
-    lets = {name for reading in readings for name in reading.lets}
-    for name in ({*names} | results | lets) & {*imported, *LENT} | lets & {*LIBRARY} | (results | lets) & {*names} | results & lets:
+
+
+def hiding_faults(names, lets, imported):
+    """A parameter or a `let` that has the name of something else."""
+    for name in sorted({*names, *lets} & {*imported, *LENT} | {*lets} & {*LIBRARY, *names}):
         yield f"hides the name `{name}`"
+
+
+def unfixed_faults(function, readings, imported, structs, reads):
+    cited = {name for name, source in imported.items() if source}
+    names = {parameter.name for parameter in function.parameters}
+    given = [parameter for parameter in function.parameters if not parameter.lent_mutably]
+    read_from = [parameter.name for parameter in function.parameters if parameter.type in (f"&mut {kind}" for kind in function.readers)]
     equations = [
-        (reading.result, left, right)
+        (left, right)
         for reading in readings
         for left, right in reading.equations
-        if settles(reading, right, cited) and (not given or {*names} & {*right})
+        if settles(right, cited) and (not given or names & heads(right))
     ]
     for name in unsettled(function, equations, imported, structs):
         what = f"`{name}` afterwards" if name else "its result"
         if not reads:
             yield f"has no equation that fixes {what}"
-        elif not any(bounds(reading, name, cited) or keeps_length(reading, name) for reading in readings):
+        elif name not in read_from and not any(bounds(reading, name, cited) or keeps_length(reading, name) for reading in readings):
             yield f"reads, and no equation and no definition of specs/ speaks of {what} under no premise"
-    for name in names:
-        if not reads and not any(name in left + right for _, left, right in equations):
+    for name in sorted(names):
+        if not reads and not any(name in heads(left + right) for left, right in equations):
             yield f"says nothing of its parameter `{name}`"
 
 
 def bounds(reading, name, cited):
     """A definition of specs/ is applied, under no premise, to what is behind this `&mut` afterwards, or to the result, or to a term that holds it."""
-    wanted = afterwards(name) if name else [reading.result]
-    return any(part[0] in cited and any(holds_words(each, wanted) for each in arguments(part)) for part in reading.others)
+    return any(part[0] in cited and any(speaks_of(each, name) for each in arguments(part)) for part in reading.others)
 
 
 def keeps_length(reading, name):
     """An equation says that what is behind this `&mut` is as long afterwards as before."""
-    lengths = [["length", "(", "now", "(", name, when, ")", ")"] for when in (".exit", ".entry")]
+    lengths = [["length", f"{name}.{when}"] for when in ("new", "old")]
     return any([canonical(left), canonical(right)] == lengths for left, right in reading.equations)
 
 
-def afterwards(name):
-    return ["now", "(", name, ".exit", ")"]
+def speaks_of(words, name):
+    """What is behind this `&mut` afterwards stands in it, or, where the name is "", the result."""
+    return any(re.match(rf"{re.escape(name)}\.(new|exit)\b", word) if name else head(word) == "result" for word in words)
 
 
-def holds_words(words, wanted):
-    """These words stand in it, one behind another."""
-    return any(words[place : place + len(wanted)] == wanted for place in range(len(words)))
-
-
-def settles(reading, right, cited):
+def settles(right, cited):
     """The right side of an equation is a definition's value, on nothing that the function gives back."""
-    return bool(cited & {*right}) and not {*right} & {reading.result, ".exit"}
+    afterwards = any({"new", "exit"} & {*word.split(".")[1:]} for word in right)
+    return bool(cited & heads(right)) and "result" not in heads(right) and not afterwards
 
 
 def unsettled(function, equations, imported, structs):
     """What no equation fixes: the result, which is "" here, or what is behind a `&mut` afterwards, by its name."""
-    observed = [(result, canonical(left)) for result, left, _ in equations]
+    observed = [canonical(left) for left, _ in equations]
     if function.result not in ("", "()") and not result_fixed(function.result, observed, structs):
         yield ""
     for parameter in function.parameters:
         if parameter.lent_mutably:
-            after = afterwards(parameter.name)
-            if not any(left == after or holds(left, after, imported) for _, left in observed):
+            after = [f"{parameter.name}.new"]
+            if not any(left == after or holds(left, after, imported) for left in observed):
                 yield parameter.name
 
 
 def result_fixed(kind, observed, structs):
-    """A reference by what it refers to and where; a struct perhaps by its fields, one by one or listed (`r .a ∷ r .b ∷ [] ≡ ..`)."""
-    seen = [part[1:] if part[:1] == [result] else part for result, left in observed for part in listed(left)]
+    """A reference by what it refers to and where; a struct perhaps by its fields, one by one or listed (`result.a ∷ result.b ∷ [] ≡ ..`)."""
+    seen = [part[0] for left in observed for part in listed(left) if len(part) == 1]
     if kind.startswith("&"):
-        return [".ptr"] in seen and any(left == ["now", result] for result, left in observed)
+        return "result.now" in seen and "result.ref_ptr" in seen
     fields = structs.get(kind, [])
-    return [] in seen or bool(fields) and all([f".{name}"] in seen for name in fields)
+    return "result" in seen or bool(fields) and all(f"result.{name}" in seen for name in fields)
 
 
 def listed(words):
@@ -559,13 +652,16 @@ def builds_record(source, name):
 # ---- names
 
 
-def specs_module(path, crate):
-    """The crate and the file of specs/ that a path names: `Rattle·here·specs.specs.File` in the crate itself, `Rattle·there.specs.File` elsewhere."""
-    own = re.fullmatch(rf"Rattle·{crate.name}·specs\.specs\.(\w+)", path)
-    if own:
-        return crate.name, own.group(1)
-    other = re.fullmatch(r"Rattle·(\w+)\.specs\.(\w+)", path)
-    return (other.group(1), other.group(2)) if other else ("", "")
+def specs_module(path):
+    """The crate and the file of specs/ that a path names."""
+    found = re.fullmatch(r"Rattle\.(\w+)\.specs\.(\w+)", path)
+    return found.groups() if found else ("", "")
+
+
+def declaring_crate(path):
+    """The crate whose type, variants or constants a path names, which Rattle declares from its sources."""
+    found = re.fullmatch(r"Rattle\.(\w+)\.specs\.declared\.[\w.]+", path)
+    return found.group(1) if found else ""
 
 
 def name_faults(crates):
@@ -573,44 +669,51 @@ def name_faults(crates):
     given |= {word for crate in crates.values() for source in crate.src.values() for word in re.findall(r"\w+", source.text)}
     for crate in crates.values():
         for path, source in {**crate.src, **crate.specs}.items():
-            uses = source.ghost_uses() if path.endswith(".rt") else source.uses()
+            uses = list(source.ghost_uses() if path.endswith(".rt") else source.uses())
             for use in uses:
-                faults = [*use_faults(use, crate, crates, path.endswith(".rt")), *alias_faults(use, given, path.endswith(".rt"))]
+                faults = [*use_faults(use, crates, path.endswith(".rt")), *alias_faults(use, given, path.endswith(".rt"))]
                 yield from (f"{crate.place(path, use.line)}: {fault}" for fault in faults)
+            yield from (f"{crate.place(path, line)}: `{name}` is brought in twice" for name, line in brought_twice(uses))
         for path, source in crate.specs.items():
             for name, line in sorted({*source.named_places, *pattern_variables(source)}):
-                if name in LIBRARY or name in LENT:
+                if name in LIBRARY or name in LENT or name in SIGNS - CONSTRUCTORS:
                     yield f"{crate.place(path, line)}: `{name}` is given another meaning"
-                elif "_" in name[:-1] or name.endswith("_") and name != "_":
+                elif "◌" in name:
                     yield f"{crate.place(path, line)}: `{name}` is an operator of its own"
 
 
+def brought_twice(uses):
+    """The names that more than one item brings: one of them may hold for a part of the file alone."""
+    places = [(alias, use.line) for use in uses for _, alias in use.items]
+    names = [name for name, _ in places]
+    yield from ((name, line) for number, (name, line) in enumerate(places) if name in names[:number])
+
+
 def pattern_variables(source):
-    """The names on the left sides of clauses that are no constructor's."""
-    for each in source.declarations:
-        if each.sort == "clause":
-            at = (outside(each.words, ("=",)) or [0])[0]
-            yield from ((name, each.line) for name in each.words[:at] if name not in CONSTRUCTORS)
+    """The names in patterns that are no constructor's."""
+    yield from ((name, line) for name, line in source.pattern_places() if name not in CONSTRUCTORS)
 
 
-def use_faults(use, crate, crates, for_contracts):
+def use_faults(use, crates, for_contracts):
     if not use.path:
         yield f"`use {use.text}` does not list the names that it takes"
         return
-    owner, module = specs_module(use.path, crate)
+    owner, module = specs_module(use.path)
+    root = re.split(r"\.", use.path)
     for name, alias in use.items:
         if name == "*" or not re.fullmatch(r"[^\s.]+", name):
             yield f"`{name}` is no single name"
         elif alias in LENT or alias in LIBRARY and (alias != name or LIBRARY[alias] != use.path):
             yield f"`{alias}` is taken from `{use.path}`"
-        elif use.path.startswith("Rattle·"):
-            if owner in crates and not gives(crates[owner], module, name):
+        elif owner in crates:
+            if not gives(crates[owner], module, name):
                 yield f"`{name}` is not defined in specs/{module}.antt of {owner}"
-            elif not owner and not re.match(r"Rattle·\w+(·specs\.specs|\.specs)\.declared\.\w+", use.path):
+        elif root[0] == "Rattle" and root[1] in crates:
+            if declaring_crate(use.path) != root[1]:
                 yield f"`{use.path}` is no file of specs/"
-        elif use.path.split(".")[0] not in ("mathlib", "lib", "Prim"):
+        elif root[0] not in ROOTS or root[0] == "package":
             yield f"`{use.path}` is neither a library's nor a crate's"
-        elif name not in LIBRARY and (for_contracts or "_" in name):
+        elif name not in LIBRARY and (for_contracts or "◌" in name):
             yield f"`{name}` of `{use.path}` is not in the table LIBRARY"
 
 
@@ -646,21 +749,23 @@ def text_faults(crates):
 
 def declared_faults(crates):
     for crate in crates.values():
-        functions = [(path, function) for path, source in crate.src.items() for function in source.functions]
+        functions = [folder_of(path, function) for path, source in crate.src.items() for function in source.functions]
         for path in [*crate.specs, *crate.proofs]:
             part, *folders, file = pathlib.Path(path).with_suffix("").parts
             library = (crate.specs if part == "specs" else crate.proofs).get(f"{part}/Lib.antt")
             if part == "proofs" and folders:
-                if file != "Proof" or not any(folder_of(*each) == [folder.lstrip("+") for folder in folders] for each in functions):
+                if file not in PROOF_FILES or [folder.lstrip("+") for folder in folders] not in functions:
                     yield f"{crate.place(path, 1)}: belongs to no function"
+                elif file == "Proof" and any(path.replace("/Proof.", f"/{other}.") in crate.proofs for other in PROOF_FILES[1:]):
+                    yield f"{crate.place(path, 1)}: stands beside another proof of its function"
             elif folders or file != "Lib" and (not library or file not in library.modules()):
                 yield f"{crate.place(path, 1)}: {part}/Lib.antt does not declare it"
 
 
 def folder_of(path, function):
-    """The folder of a function's proof: the modules of its file, the type of its `impl`, its name."""
-    modules = pathlib.Path(path).with_suffix("").parts[1:]
-    return [*(module for module in modules if module not in ("lib", "main", "mod")), *([function.owner] if function.owner else []), function.name]
+    """The folder of a function's proof: the modules of its file, its `impl`, and its name, or that of the cycle that it is proved with."""
+    modules = [module for module in pathlib.Path(path).with_suffix("").parts[1:] if module not in ("lib", "main", "mod")]
+    return [*modules, *([function.owner] if function.owner else []), function.cycle or function.name]
 
 
 def said_faults(crates):
@@ -670,12 +775,15 @@ def said_faults(crates):
                 place = f"{crate.place(path, each.line)}: `{each.name}`"
                 if each.sort not in SORTS:
                     yield f"{place}: specs/ has no `{each.sort}`"
+                if each.sort not in ("use", "mod"):
+                    yield from (f"{place}: specs/ has no `{word}`" for word in UNREAD if word in each.words)
+                    yield from (f"{place}: {fault}" for fault in path_faults(each.words))
                 said = said_by(each, source)
                 for words in said:
                     for part in trivial_parts(words):
                         yield f"{place}: `{part}` is trivially true"
                     if leaves_open(words):
-                        yield f"{place}: `_` stands for whatever makes `{' '.join(words)}` true"
+                        yield f"{place}: `_`, or a tactic, stands for whatever makes `{' '.join(words)}` true"
                 every = any if each.sort == "record" else all
                 if said and every(is_unit(part) for words in said for part in parts_of(words)):
                     yield f"{place} says nothing in a part"
@@ -694,18 +802,13 @@ def said_by(each, source):
 
 
 def leaves_open(words):
-    """A `_` stands in it that is no name of a `λ`: the prover takes for it whatever fits."""
+    """A `_` stands in it that is no name of a `λ`, or a tactic: the prover takes for it whatever fits."""
     binds = False
     for word in words:
         binds = word == "λ" or binds and word != "."
-        if word == "_" and not binds:
+        if word == "_" and not binds or word in TACTICS or head(word) == "Prim":
             return True
     return False
-
-
-def is_unit(words):
-    """Whatever is given, there is nothing to show."""
-    return bare(split_words(bare(words), ("→",))[-1])[:1] in (["Unit"], ["⊤"])
 
 
 def is_closed(each):
@@ -736,7 +839,7 @@ def proof_faults(crate, source, theorem, statement):
         yield "is not stated"
     elif places[0] + 1 == len(declarations) or declarations[places[0] + 1].sort != "clause" or declarations[places[0] + 1].name != theorem:
         yield "is not proved right behind its signature"
-    modules = [specs_module(use.path, crate) for use in source.uses() if (statement, statement) in use.items]
+    modules = [specs_module(use.path) for use in source.uses() if (statement, statement) in use.items]
     if len(modules) != 1 or modules[0][0] != crate.name or statement not in crate.definitions(modules[0][1]):
         yield "its statement is not imported from the file of specs/ that defines it"
 
@@ -787,33 +890,41 @@ def stands_alone(each, source):
 def edit_faults(crates):
     for crate in crates.values():
         for edit in sorted((crate.folder / "must-fail").glob("*")):
-            for fault in one_edit_faults(crate, edit):
+            for fault in one_edit_faults(crate, edit) if edit.is_file() else ["is no file"]:
                 yield f"{edit.relative_to(crate.root)}: {fault}"
+
+
+def edit_line(line):
+    """What a line of an edit gives, as the prover reads it, and its text."""
+    found = re.fullmatch(r"(file: |old: |new: ?)(.*)", line)
+    return (found.group(1).rstrip(": "), found.group(2)) if found else ("", line)
 
 
 def one_edit_faults(crate, edit):
     lines = edit.read_text().rstrip("\n").split("\n")
     slips = [line for line in lines if line.startswith("#")]
-    rest = [line.partition(":")[::2] for line in lines[len(slips) :]]
+    rest = [edit_line(line) for line in lines[len(slips) :]]
     keys = " ".join(key for key, _ in rest)
-    if edit.suffix != ".edit" or not "".join(slips).strip("# ") or not re.fullmatch(r"(file( old new)+ ?)+", keys):
+    if not re.fullmatch(r"[\w-][\w.-]*\.edit", edit.name, re.A) or not "".join(slips).strip("# ") or not re.fullmatch(r"(file( old new)+ ?)+", keys):
         yield "is not a line `#`, `file:` and pairs of `old:` and `new:`"
         return
-    path, old = "", ""
+    path, old, texts = "", "", {}
     for key, text in rest:
-        text = text.removeprefix(" ")
         if key == "file":
             path = text
             if path.split("/")[0] not in ("src", "specs") or ".." in path or not (crate.folder / path).is_file():
                 yield f"`{path}` is no file of src/ or specs/"
                 return
+            texts.setdefault(path, (crate.folder / path).read_text())
         elif key == "old":
             old = text
-            count = (crate.folder / path).read_text().count(old) if old else 0
+            count = texts[path].count(old) if old else 0
             if count != 1:
                 yield f"`{old}` occurs {count} times in {path}"
-        elif text == old:
-            yield f"`{old}` is not changed"
+        else:
+            if text == old:
+                yield f"`{old}` is not changed"
+            texts[path] = texts[path].replace(old, text) if old else texts[path]
 
 
 def all_faults(root, lists):

@@ -7,14 +7,15 @@ from dataclasses import dataclass, field
 from functools import cached_property
 
 NAME = r"[^\s(){}.;,@\"«»]+"
-# A name or a path of names, a field (` .exit`), an escaped name, a bracket or another mark.
-ANTT_TOKEN = re.compile(rf"«[^»]*»|\.(?={NAME}){NAME}|{NAME}(?:\.{NAME})*|\S")
+# A name or a path of names (`Bits.xor`, `x.new`), a field behind a bracket (`(f x).size`), an escaped name, a bracket or another mark.
+ANTT_TOKEN = re.compile(rf"\.(?={NAME}){NAME}|(?:«[^»]*»|{NAME})(?:\.{NAME})*|\S")
 RATTLE_TOKEN = re.compile(r'"[^"]*"|\w+|->|::|\S')
 CLOSING = {"(": ")", "{": "}", "[": "]", "<": ">"}
 CLAUSES = ("ghost", "requires", "ensures")
-MARKS = ("unfoldable", "abbrev", "axiom", "pub")
+LENT_MUTABLY = r"&\s*('\w+\s*)?mut\b"
+MARKS = ("pattern", "unfoldable", "abbrev", "axiom", "pub")
 # Words that open something other than a signature.
-HEADS = ("use", "mod", "module", "mutual", "open", "infix", "infixl", "infixr", "ruleset", "unfolding")
+HEADS = ("use", "mod", "module", "mutual", "open", "infix", "infixl", "infixr", "syntax", "ruleset", "unfolding")
 
 
 # ---- both languages
@@ -68,9 +69,10 @@ def bracket_end(text, at):
 
 def split_outside(text, mark):
     """The parts of a text between marks that stand in no bracket."""
-    parts, depth = [""], 0
+    parts, depth, last = [""], 0, ""
     for letter in text:
-        depth += (letter in "([{<") - (letter in ")]}>")
+        depth += (letter in "([{<") - (letter in ")]}>" and last + letter != "->")
+        last = letter
         if letter == mark and depth == 0:
             parts.append("")
         else:
@@ -88,6 +90,8 @@ class Clause:
     text: str  # what stands between the braces
     line: int
     commented: bool
+    starred: bool  # `ensures*`, `requires*`: what is said of memory and loans
+    place: int  # where its word begins
 
 
 @dataclass
@@ -97,7 +101,8 @@ class Parameter:
 
     @property
     def lent_mutably(self):
-        return re.match(r"&\s*('\w+\s*)?mut\b", self.type) is not None
+        """It is a `&mut`, or holds one."""
+        return re.search(LENT_MUTABLY, self.type) is not None
 
 
 @dataclass
@@ -106,7 +111,10 @@ class Function:
     line: int
     public: bool  # pub to other crates, of a trait, or visible to C
     for_c: bool  # `extern`: visible to C
-    owner: str  # the type of the `impl` around it, or ""
+    owner: str  # the `impl` or `trait` around it, by the name of its folder of proofs, or ""
+    cycle: str  # the name that `#[cycle(name)]` gives those that call one another, or ""
+    generics: list  # the names of its type and const parameters, and of its `impl`'s
+    readers: list  # of these the types that can be read from, and what stands for one that has no name
     parameters: list
     result: str  # its type, or ""
     clauses: list
@@ -143,15 +151,29 @@ class RattleSource:
         for number, token in enumerate(tokens):
             if token.group() == "fn" and number + 1 < len(tokens) and re.match(r"\w", tokens[number + 1].group()):
                 before = self.marks_before(tokens, number)
-                owner, of_trait = next(((name, trait) for name, trait, start, end in impls if start < token.start() < end), ("", False))
+                around = (each for *each, start, end in impls if start < token.start() < end)
+                owner, of_trait, generics = next(around, ("", False, ""))
                 outside_too = "pub" in before and not {"crate", "super", "self"} & {*before}
-                yield self.function(tokens[number + 1], of_trait or outside_too or "extern" in before, "extern" in before, owner)
+                public = of_trait or outside_too or "extern" in before
+                belongs = (owner, self.cycle_before(token.start()))
+                yield self.function(tokens[number + 1], (public, "extern" in before), belongs, generics)
 
     def impls(self):
-        """Each `impl`: its type, whether it is one of a trait, whose functions have no `pub` of their own, and where it begins and ends."""
-        for found in re.finditer(r"\bimpl\b\s*(?:<[^>]*>)?\s*(\w+)([^{;]*)\{", self.text):
-            of_trait = re.search(r"\bfor\s+(\w+)", found.group(2))
-            yield of_trait.group(1) if of_trait else found.group(1), bool(of_trait), found.end(), bracket_end(self.text, found.end() - 1)
+        """Each `impl` and `trait`: the name that its folder of proofs has, whether its functions are a trait's, which have no `pub` of their own, its
+        parameters, and where it begins and ends."""
+        for found in re.finditer(r"\b(impl|trait)\b\s*(?:<([^>]*)>)?\s*([^{;]*)\{", self.text):
+            kind, generics, front = found.groups()
+            without_bounds = re.split(r"\bwhere\b|(?<!:):(?!:)", front)[0]
+            trait, *of_type = re.split(r"\bfor\b", without_bounds, maxsplit=1)
+            own = names_of_generics(generics or "")
+            owner = "".join(words_of_type(part, own) for part in [*of_type, trait])
+            yield owner, bool(of_type) or kind == "trait", generics or "", found.end(), bracket_end(self.text, found.end() - 1)
+
+    def cycle_before(self, place):
+        """The name in the `#[cycle(..)]` among the attributes of the item at a place."""
+        items = re.split(r"[{};]", self.text[:place])
+        found = re.search(r"#\[cycle\((\w+)\)\]", items[-1])
+        return found.group(1) if found else ""
 
     def marks_before(self, tokens, number):
         """The words in front of a `fn`, back to the end of what stands before the item."""
@@ -161,10 +183,12 @@ class RattleSource:
             words.append(tokens[number].group())
         return words
 
-    def function(self, name, public, for_c, owner):
+    def function(self, name, seen, belongs, generics):
         at = name.end()
         if self.next_mark(at) == "<":
-            at = bracket_end(self.text, self.text.index("<", at))
+            begin = self.text.index("<", at)
+            at = bracket_end(self.text, begin)
+            generics += "," + self.text[begin + 1 : at - 1]
         start = self.text.index("(", at)
         at = bracket_end(self.text, start)
         parameters = [self.parameter(part) for part in split_outside(self.text[start + 1 : at - 1], ",")]
@@ -173,8 +197,14 @@ class RattleSource:
             begin = self.text.index("->", at) + 2
             at = self.result_end(begin)
             result = self.text[begin:at].strip()
-        clauses, at = self.clauses(at)
-        return Function(name.group(), line_of(self.text, name.start()), public, for_c, owner, parameters, result, clauses, self.next_mark(at) != "{")
+        clauses, at = self.clauses(self.behind_bounds(at))
+        readers = ["impl Read", *names_of_generics(generics, r":(?!.*\bWrite\b).*\bRead\b")]
+        rest = (names_of_generics(generics), readers, parameters, result, clauses, self.next_mark(at) != "{")
+        return Function(name.group(), line_of(self.text, name.start()), *seen, *belongs, *rest)
+
+    def behind_bounds(self, at):
+        """Behind a `where` and its bounds, if one stands here."""
+        return self.result_end(at + self.text[at:].index("where") + 5) if re.match(r"\s*where\b", self.text[at:]) else at
 
     def next_mark(self, at):
         return self.text[at:].lstrip()[:1]
@@ -195,8 +225,8 @@ class RattleSource:
         return len(self.text)
 
     def clause_at(self, at):
-        """A clause begins here: its word, perhaps a label, and a brace."""
-        return re.compile(rf"({'|'.join(CLAUSES)})\b(?:\s*(\w+))?\s*(?=\{{)").match(self.text, at)
+        """A clause begins here: its word, perhaps a star, a label or a ghost value's name, and a brace."""
+        return re.compile(rf"({'|'.join(CLAUSES)})\b(\*)?(?:\s*(\w+)\s*:?)?\s*(?=\{{)").match(self.text, at)
 
     def clauses(self, at):
         found = []
@@ -208,26 +238,66 @@ class RattleSource:
             end = bracket_end(self.text, head.end())
             text = self.text[head.end() + 1 : end - 1]
             commented = self.raw[at:end] != self.text[at:end] or re.search(r"--|\{-|\"", text) is not None
-            found.append(Clause(head.group(1), head.group(2) or "", text, line_of(self.text, at), commented))
+            found.append(Clause(head.group(1), head.group(3) or "", text, line_of(self.text, at), commented, bool(head.group(2)), at))
             at = end
 
     def ghost_uses(self):
         for found in re.finditer(r"\bghost\s+use\b([^;]*);", self.text):
             yield use_of(found.group(1), line_of(self.text, found.start()))
 
+    def ghost_texts(self):
+        """What stands in the braces of clauses, also of closures, and of other ghost items."""
+        for found in re.finditer(rf"\b(?:{'|'.join(CLAUSES)}|by)\b(?!\s+use\b)[^;{{}}]*(?=\{{)", self.text):
+            yield self.text[found.end() : bracket_end(self.text, found.end())]
+
+    def ghosts(self):
+        """The lines where `ghost` stands and begins neither a `ghost use` nor a function's clause."""
+        places = {clause.place for function in self.functions for clause in function.clauses}
+        for found in re.finditer(r"\bghost\b(?!\s+use\b)", self.text):
+            if found.start() not in places:
+                yield line_of(self.text, found.start())
+
     def handed_on(self):
-        """What each `pub use` names, with its line."""
+        """What each `pub use` names, one by one, with its line."""
         for found in re.finditer(r"\bpub\s*(?:\([^)]*\)\s*)?use\b([^;]*);", self.text):
-            yield found.group(1).strip(), line_of(self.text, found.start())
+            for named in paths_in(found.group(1).strip()):
+                yield named, line_of(self.text, found.start())
+
+    def lending_types(self):
+        """The structs, enums and other names of types that hold a `&mut`, with their lines."""
+        for found in re.finditer(r"\b(?:struct|enum|type)\s+(\w+)[^;{]*([;{])", self.text):
+            end = bracket_end(self.text, found.end() - 1) if found.group(2) == "{" else found.end()
+            if re.search(LENT_MUTABLY, self.text[found.start() : end]):
+                yield found.group(1), line_of(self.text, found.start())
 
     @cached_property
     def structs(self):
         """The fields of each struct, by its name."""
         found = {}
-        for head in re.finditer(r"\bstruct\s+(\w+)\s*(?=\{)", self.text):
+        for head in re.finditer(r"\bstruct\s+(\w+)\s*(?:<[^{;]*>\s*)?(?=\{)", self.text):
             inside = self.text[head.end() + 1 : bracket_end(self.text, head.end()) - 1]
             found[head.group(1)] = [self.parameter(part).name.split()[-1] for part in split_outside(inside, ",")]
         return found
+
+
+def names_of_generics(text, bound=""):
+    """The names of type and const parameters with such a bound; lifetimes are none."""
+    parts = [part.removeprefix("const ") for part in split_outside(text, ",") if part[0] != "'"]
+    return [re.split(r"[:=]", part)[0].strip() for part in parts if re.search(bound, part, re.S)]
+
+
+def words_of_type(text, own):
+    """A type's or a trait's words, as the folder of its proofs joins them: `RefU8` of `&u8`; without the parameters that are its own."""
+    words = re.findall(r"&|\w+", re.sub(r"'\w+|\w+::|\b(mut|dyn|const)\b", "", text))
+    return "".join("Ref" if word == "&" else word[0].upper() + word[1:] for word in words if word not in own)
+
+
+def paths_in(text):
+    """The paths that a Rust `use` names: `a::{b, c::d}` names `a::b` and `a::c::d`."""
+    front, brace, rest = text.partition("{")
+    if not brace:
+        return [text]
+    return [front + path for part in split_outside(rest.rstrip().removesuffix("}"), ",") for path in paths_in(part)]
 
 
 def use_of(text, line):
@@ -236,8 +306,9 @@ def use_of(text, line):
         return Use("", [], line, text.strip())
     items = []
     for item in split_items(shape.group(2)):
-        words = item.split()
-        items.append((words[0], words[2]) if len(words) == 3 and words[1] == "as" else (item, item))
+        words = [unescaped(word) for word in item.split()]
+        name = unescaped(item)
+        items.append((words[0], words[2]) if len(words) == 3 and words[1] == "as" else (name, name))
     return Use(shape.group(1), items, line, text.strip())
 
 
@@ -297,6 +368,18 @@ class Declaration:
         kind = rest[colon[0] + 1 :]
         return kind[: kind.index("where")] if "where" in kind else kind
 
+    def left_places(self):
+        """The words left of a clause's `=`, with their lines, and of each clause in its `where`."""
+        equals = outside(self.words, ("=",)) or [0]
+        yield from ((name, self.line) for name in self.words[: equals[0]])
+        behind_where = False
+        for number, line in enumerate(self.text.split("\n"), self.line):
+            words = antt_tokens(line)
+            equals = outside(words, ("=",))
+            if behind_where and equals and "let" not in words[: equals[0]]:
+                yield from ((name, number) for name in words[: equals[0]])
+            behind_where = behind_where or words[-1:] == ["where"]
+
     def parameters(self):
         """What stands between a record's name and its colon."""
         rest = self.words[self.marked() :]
@@ -354,19 +437,35 @@ class AnttSource:
         return [declaration.words[-1] for declaration in self.declarations if declaration.sort == "mod"]
 
     @cached_property
+    def tokens(self):
+        return [(unescaped(word.group()), word.start()) for word in ANTT_TOKEN.finditer(self.text)]
+
+    def pattern_places(self):
+        """Every (name, line) in a pattern, constructors among them: on a clause's left side, also of a `where`'s, or in front of a case's `↦`."""
+        for each in self.declarations:
+            if each.sort == "clause":
+                yield from each.left_places()
+        for number, (word, place) in enumerate(self.tokens[:-1]):
+            if word in ("[", "|") and self.tokens[number + 1][0] not in ("]", "|"):
+                yield from self.names_bound(self.tokens, number + 1, "↦")
+
+    @cached_property
     def named_places(self):
         return list(self.read_named_places())
 
     def read_named_places(self):
         """Every (name, line) that the text gives a meaning: by a signature or a binder (`x y : T`), as a record or data type, by `λ` or `let`."""
-        tokens = [(word.group(), word.start()) for word in ANTT_TOKEN.finditer(self.text)]
-        for number, (word, place) in enumerate(tokens):
+        tokens = self.tokens
+        for number, (word, place) in enumerate(tokens[:-1]):
+            behind = tokens[number + 1][0]
             if word == ":":
                 yield from self.names_before(tokens, number)
-            elif word in ("record", "data", "let") and number + 1 < len(tokens) and tokens[number + 1][0] != "{":
-                yield tokens[number + 1][0], line_of(self.text, tokens[number + 1][1])
+            elif word == "let" and behind in ("(", "record"):
+                yield from self.names_bound(tokens, number + 1, "=")
+            elif word in ("record", "data", "let") and behind != "{":
+                yield behind, line_of(self.text, tokens[number + 1][1])
             elif word == "λ":
-                yield from self.names_bound(tokens, number + 1)
+                yield from self.names_bound(tokens, number + 1, ".")
 
     def names_before(self, tokens, number):
         while number > 0:
@@ -378,20 +477,25 @@ class AnttSource:
             if not self.text[self.text.rfind("\n", 0, place) + 1 : place].strip():
                 return
 
-    def names_bound(self, tokens, number):
-        """The names between a `λ` and its dot; those that have a type there, in brackets, stand before a colon."""
-        depth = 0
-        while number < len(tokens) and tokens[number][0] != ".":
+    def names_bound(self, tokens, number, end):
+        """The names between a `λ` and its dot, a `let` and its `=`, or in front of a case's `↦`, also in brackets; a type is no name."""
+        depth, of_type = 0, 0
+        while number < len(tokens) and (depth or tokens[number][0] != end):
             word, place = tokens[number]
-            depth += (word == "(") - (word == ")")
-            if depth == 0 and word != ")":
+            depth += (word in "({") - (word in ")}")
+            of_type = depth if word == ":" else of_type if depth >= of_type else 0
+            if not of_type and not re.fullmatch(r"[(){};,=|\[\]]|record", word):
                 yield word, line_of(self.text, place)
             number += 1
 
 
 def antt_tokens(text):
-    """The words of an antt text; an escaped name is the name."""
-    return [word[1:-1] if word[0] == "«" else word for word in ANTT_TOKEN.findall(text)]
+    return [unescaped(word) for word in ANTT_TOKEN.findall(text)]
+
+
+def unescaped(word):
+    """An escaped name is the name: `«data».new` is `data.new`."""
+    return re.sub("^«([^«»]*)»", r"\1", word)
 
 
 def outside(words, wanted):
@@ -437,13 +541,23 @@ def bound_types(words):
     return [each[(outside(each, (":",)) or [-1])[0] + 1 :] for each in binders]
 
 
+def head(word):
+    """The name that a path begins with: of `x.new.size` it is `x`. A field alone, as behind a bracket, has none."""
+    return word.split(".")[0]
+
+
+def heads(words):
+    return {head(word) for word in words} - {""}
+
+
 def canonical(words):
     """Without brackets that change nothing: around one word, around all of it, or around a function at the head of what it is applied to."""
     words = bare(words)
     if words and words[0] == "(":
         end = group_end(words, 0)
         inner = words[1 : end - 1]
-        if all(re.search(r"\w", word) for word in inner if word not in "()"):
+        of_field = words[end : end + 1] and words[end].startswith(".")
+        if all(re.search(r"\w", word) for word in inner if word not in "()") and not of_field:
             words = inner + words[end:]
     kept, at = [], 0
     while at < len(words):
@@ -452,6 +566,9 @@ def canonical(words):
             inner = canonical(words[at + 1 : end - 1])
             kept += inner if len(inner) == 1 else ["(", *inner, ")"]
             at = end
+        elif words[at].startswith(".") and kept and kept[-1] != ")":
+            kept[-1] += words[at]
+            at += 1
         else:
             kept.append(words[at])
             at += 1

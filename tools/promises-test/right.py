@@ -3,12 +3,11 @@
 FILES = {
     "crates/meter/src/lib.rt": """\
 // Meters. Every shape of contract stands here once.
-ghost use mathlib.Core.Path.{_≡_};
-ghost use Prim.Native.Nat.{_+_, _≤_};
-ghost use mathlib.Core.List.{[], _∷_};
-ghost use lib.ListN.{length};
-ghost use Rattle·meter·specs.specs.Reading.{
-    readingOf, most, sizeIn, storeAfter, partOf, startOf, Pair, pairOf, loadedFrom, addedTo, cleared, bothOf
+#![tactic(auto)]
+
+ghost use Rattle.std.specs.Prelude.{◌≡◌, ◌+◌, ◌≤◌, [], ◌∷◌, length};
+ghost use Rattle.meter.specs.Reading.{
+    reading_of, most, size_in, store_after, part_of, start_of, Pair, pair_of, loaded_from, added_to, cleared, both_of
 };
 mod deeper;
 
@@ -23,7 +22,7 @@ pub struct Both {
 
 // What stands at a place of the store.
 pub fn reading(store: &[u8], at: usize) -> u8
-    ensures { λ r. ⌜ r ≡ readingOf (now (store .entry)) at ⌝ }
+    ensures { result ≡ reading_of store.now at }
 {
     if at < store.len() {
         return store[at];
@@ -34,114 +33,176 @@ pub fn reading(store: &[u8], at: usize) -> u8
 impl Meter {
     // a total with a number added
     pub fn add(self, x: usize) -> Meter
-        ensures { λ v. ⌜ v ≡ addedTo self x ⌝ }
+        ensures { result ≡ added_to self x }
     {
         Meter { total: sum(self.total, x) }
     }
 }
 
 pub fn write(store: &mut [u8], x: u8) -> usize
-    ensures size { λ r. ⌜ r ≡ sizeIn (length (now (store .entry))) x ⌝ }
-    ensures content { λ _. ⌜ now (store .exit) ≡ storeAfter (now (store .entry)) x ⌝ }
-    ensures whole { λ r. ⌜ (most ≤ length (now (store .entry)) → r ≡ sizeIn most x) ⌝ }
+    ensures size { result ≡ size_in (length store.old) x }
+    ensures content { store.new ≡ store_after store.old x }
+    ensures whole { most ≤ length store.old → result ≡ size_in most x }
 {
     put(store, x)
 }
 
 // Two stores at once; the first is read as it was.
 pub fn load(low: &mut [u8], high: &mut [u8], card: &[u8])
-    ensures { λ _. ⌜
-        pairOf (now (low .exit)) (now (high .exit))
-        ≡ loadedFrom (pairOf (now (low .entry)) (now (high .entry))) (now (card .entry))
-    ⌝ }
+    ensures {
+        let p = pair_of low.old high.old in
+        pair_of low.new high.new
+        ≡ loaded_from p card.now
+    }
 {
     copy(card, low, high);
 }
 
 pub fn part<'k>(store: &'k [u8], at: usize) -> &'k [u8]
-    ensures content { λ r. ⌜ now r ≡ partOf (now (store .entry)) at ⌝ }
-    ensures place { λ r. ⌜ r .ptr ≡ startOf (store .entry .ptr) at ⌝ }
+    ensures content { result.now ≡ part_of store.now at }
+    ensures place { result.ref_ptr ≡ start_of store.entry.ref_ptr at }
 {
     &store[at..]
 }
 
-#[no_mangle]
+#[unsafe(no_mangle)]
 pub extern "C" fn meter_most(store: &[u8], size: &mut u64) -> u8
-    ensures { λ r. ⌜ (r ≡ readingOf (now (store .entry)) most) × (now (size .exit) ≡ sizeIn (length (now (store .entry))) 0) ⌝ }
+    ensures { (result ≡ reading_of store.now most) × (size.new ≡ size_in (length store.now) 0) }
 {
     0
 }
 
-#[no_mangle]
+#[unsafe(no_mangle)]
 pub extern "C" fn meter_clear(store: &mut [u8])
-    ensures { λ _. ⌜ now (store .exit) ≡ cleared ⌝ }
+    ensures { store.new ≡ cleared }
 {
     wipe(store);
 }
 
+pub fn erase(data: &mut [u8])
+    ensures { «data».new ≡ cleared }
+{
+    wipe(data);
+}
+
 // The size and the reading, by their fields.
 pub fn both(store: &[u8], at: usize) -> Both
-    ensures { λ r. ⌜ r .size ∷ r .read ∷ [] ≡ bothOf (now (store .entry)) at ⌝ }
+    ensures { result.size ∷ result.read ∷ [] ≡ both_of store.now at }
 {
     Both { size: store.len(), read: reading(store, at) }
 }
 
 fn half(x: u8) -> u8
-    requires { ⌜ x ≤ 100 ⌝ }
-    ensures { λ r. ⌜ r + r ≤ x ⌝ }
+    requires { x ≤ 100 }
+    ensures { result + result ≤ x }
 {
     x / 2
 }
 """,
     "crates/meter/src/deeper/scale.rt": """\
 // The scale of a meter.
-ghost use mathlib.Core.Path.{_≡_};
-ghost use Rattle·meter·specs.specs.Reading.{scaleOf};
+ghost use Rattle.std.specs.Prelude.{◌≡◌};
+ghost use Rattle.meter.specs.Reading.{scale_of};
 
 pub fn scale(x: u8) -> u8
-    ensures { λ r. ⌜ r ≡ scaleOf x ⌝ }
+    ensures { result ≡ scale_of x }
+{
+    x
+}
+""",
+    "crates/meter/src/deeper/turns.rt": """\
+// Turns, which call one another and are proved together; and what others hand on.
+ghost use Rattle.std.specs.Prelude.{◌≡◌, ◌≤◌};
+ghost use Rattle.meter.specs.Reading.{scale_of, pair_of};
+
+pub use crate::deeper::{scale::scale, turns::{LIMIT, turn}};
+
+pub const LIMIT: u8 = 9;
+
+pub struct Wheel;
+
+impl<'k, T: Copy> steps::Steps<u8, T> for &'k Wheel {
+    fn step(self, x: u8) -> u8
+        ensures { result ≡ scale_of (x + self) }
+    {
+        x
+    }
+}
+
+impl Turns for Wheel {
+    fn back(self, x: u8) -> u8
+        ensures { result ≡ scale_of (x + self) }
+    {
+        x
+    }
+}
+
+#[cycle(turns)]
+pub fn turn<F>(f: impl Fn(u8, u8) -> u8, x: u8) -> u8
+where
+    F: Copy,
+    ensures { (result ≡ (pair_of f (scale_of x)).low) × ¬ (x + 1 ≡ 0) }
+{
+    x
+}
+
+#[cycle(turns)]
+fn more(x: u8) -> u8
+    ghost top: { ℕ }
+    requires low { x ≤ top }
+    requires high { top ≤ 100 }
+    ensures { result ≤ top }
 {
     x
 }
 """,
     "crates/reader/src/lib.rt": """\
 // What is read no contract can say: one function, which is listed.
-ghost use mathlib.Core.Path.{_≡_};
-ghost use Prim.Native.Nat.{_≤_};
-ghost use lib.ListN.{length};
-ghost use Rattle·reader·specs.specs.Bounds.{Within};
+ghost use Rattle.std.specs.Prelude.{◌≡◌, ◌≤◌, length};
+ghost use Rattle.reader.specs.Bounds.{Within};
 
 pub fn fetch(fd: i32, room: &mut [u8]) -> usize
-    ensures within { λ r. ⌜ Within (length (now (room .entry))) r ⌝ }
-    ensures long { λ _. ⌜ length (now (room .exit)) ≡ length (now (room .entry)) ⌝ }
+    ensures within { Within (length room.old) result }
+    ensures long { length room.new ≡ length room.old }
 {
     least(libc::read(fd, room), room.len())
+}
+""",
+    "crates/reader/src/next.rt": """\
+// The same, of whatever can be read.
+ghost use Rattle.std.specs.Prelude.{◌≡◌, ◌≤◌, length};
+ghost use Rattle.reader.specs.Bounds.{Within};
+
+pub fn next<F: io::Read + Copy>(file: &mut F, room: &mut [u8]) -> usize
+    ensures within { Within (length room.old) result }
+    ensures long { length room.new ≡ length room.old }
+{
+    least(number(file.read(room)), room.len())
 }
 """,
     "crates/reader/specs/Lib.antt": "pub mod Bounds\n",
     "crates/reader/specs/Bounds.antt": """\
 -- What an answer lies within.
-use Prim.Native.Nat.{ℕ, _≤_}
+use Rattle.std.specs.Prelude.{ℕ, ◌≤◌}
 
 abbrev pub Within : ℕ → ℕ → Type 0
 Within most n = n ≤ most
 """,
     "crates/octets/src/lib.rt": """\
 // What serves the others may ask something of them.
-ghost use mathlib.Core.Path.{_≡_};
-ghost use Prim.Native.Nat.{_≤_};
-ghost use Rattle·octets·specs.specs.Cut.{cutOf};
+ghost use Rattle.std.specs.Prelude.{◌≡◌, ◌≤◌};
+ghost use Rattle.octets.specs.Cut.{cut_of};
 
 pub fn cut(x: u8) -> u8
-    requires { ⌜ x ≤ 100 ⌝ }
-    ensures { λ r. ⌜ (let y = cutOf x in r ≡ y) ⌝ }
+    requires { x ≤ 100 }
+    ensures { let y = cut_of x in result ≡ y }
 {
     x
 }
 
 pub(crate) fn small(x: u8) -> u8
-    requires { ⌜ x ≤ 100 ⌝ }
-    ensures { λ r. ⌜ r ≤ x ⌝ }
+    requires { x ≤ 100 }
+    ensures { result ≤ x }
 {
     x
 }
@@ -149,62 +210,65 @@ pub(crate) fn small(x: u8) -> u8
     "crates/octets/specs/Lib.antt": "pub mod Cut\n",
     "crates/octets/specs/Cut.antt": """\
 -- A number as it is.
-use Prim.Native.Nat.{ℕ}
+use Rattle.std.specs.Prelude.{ℕ}
 
-unfoldable pub cutOf : ℕ → ℕ
-cutOf x = x
+unfoldable pub cut_of : ℕ → ℕ
+cut_of x = x
 """,
     "crates/meter/specs/Lib.antt": "pub mod Reading\npub mod Laws\npub mod Examples\n",
     "crates/meter/specs/Reading.antt": """\
 -- What a meter reads.
-use Prim.Native.Nat.{ℕ, zero, suc, _+_}
-use mathlib.Core.Bool.{Bool, cond}
-use mathlib.Core.List.{List, [], _∷_, _++_}
-use lib.ListN.{length, getD, drop}
-use lib.Dec.{leb}
-use Rattle·meter·specs.specs.declared.Meter.{Meter}
+use Rattle.std.specs.Prelude.{ℕ, zero, suc, ◌+◌, Bool, cond, List, [], ◌∷◌, ◌++◌, length, get_or, drop, leb}
+use Rattle.meter.specs.declared.Meter.{Meter}
 
 abbrev pub most : ℕ
 most = 64
 
-unfoldable pub readingOf : List ℕ → ℕ → ℕ
-readingOf store at = getD store at 0
+unfoldable pub reading_of : List ℕ → ℕ → ℕ
+reading_of store at = get_or store at 0
 
-unfoldable pub sizeIn : ℕ → ℕ → ℕ
-sizeIn zero x = 0
-sizeIn (suc n) x = suc n
+unfoldable pub size_in : ℕ → ℕ → ℕ
+size_in zero x = 0
+size_in (suc n) x = suc n
 
-unfoldable pub storeAfter : List ℕ → ℕ → List ℕ
-storeAfter [] x = []
-storeAfter (y ∷ ys) x = x ∷ ys
+unfoldable pub store_after : List ℕ → ℕ → List ℕ
+store_after [] x = []
+store_after (y ∷ ys) x = x ∷ ys
 
 unfoldable pub cleared : List ℕ
 cleared = []
 
-unfoldable pub bothOf : List ℕ → ℕ → List ℕ
-bothOf store at = length store ∷ readingOf store at ∷ []
+unfoldable pub both_of : List ℕ → ℕ → List ℕ
+both_of store at = length store ∷ reading_of store at ∷ []
 
-unfoldable pub partOf : List ℕ → ℕ → List ℕ
-partOf store at = drop at store
+unfoldable pub part_of : List ℕ → ℕ → List ℕ
+part_of store at = drop at store
 
-unfoldable pub startOf : ℕ → ℕ → ℕ
-startOf start at = start + at
+unfoldable pub start_of : ℕ → ℕ → ℕ
+start_of start at = start + at
 
 pub record Pair : Type 0 where
   pub low : List ℕ
   pub high : List ℕ
 
-abbrev pub pairOf : List ℕ → List ℕ → Pair
-pairOf low high = record { low = low; high = high }
+abbrev pub pair_of : List ℕ → List ℕ → Pair
+pair_of low high = record { low = low; high = high }
 
-unfoldable pub loadedFrom : Pair → List ℕ → Pair
-loadedFrom p card = record { low = p .high; high = card }
+unfoldable pub loaded_from : Pair → List ℕ → Pair
+loaded_from p card = record { low = p.low; high = card }
 
-unfoldable pub addedTo : Meter → ℕ → Meter
-addedTo m x = record { total = m .total + x }
+unfoldable pub added_to : Meter → ℕ → Meter
+added_to m x = record { total = m.total + x }
 
-unfoldable pub scaleOf : ℕ → ℕ
-scaleOf x = cond (leb x most) x most
+unfoldable pub scale_of : ℕ → ℕ
+scale_of x = cond (leb x most) x most
+
+-- a number less one, in two ways
+unfoldable pub before : ℕ → ℕ
+before n = elim n [ zero ↦ zero | suc m ↦ same m ]
+  where
+    same : ℕ → ℕ
+    same k = let (a, b) = (λ (c, d). c) (k, k) in a
 
 -- a store of bytes that are in use
 abbrev pub Used : List ℕ → Type 0
@@ -213,21 +277,17 @@ Used (x ∷ xs) = Used xs
 """,
     "crates/meter/specs/Laws.antt": """\
 -- What holds of readings.
-use mathlib.Core.Path.{_≡_}
-use mathlib.Core.Logic.{_↔_}
-use Prim.Native.Nat.{ℕ, _≤_, _<_}
-use mathlib.Core.List.{List}
-use lib.ListN.{length}
-use Rattle·meter·specs.specs.Reading.{most, readingOf, sizeIn, scaleOf, storeAfter as stored}
+use Rattle.std.specs.Prelude.{◌≡◌, ◌↔◌, ℕ, ◌≤◌, ◌<◌, List, length}
+use Rattle.meter.specs.Reading.{most, reading_of, size_in, scale_of, store_after as stored}
 
 pub record ReadingSays : Type 0 where
   -- past the end it is 0
-  pub past : (s : List ℕ) (i : ℕ) → length s ≤ i → readingOf s i ≡ 0
-  pub scaled : (x : ℕ) → scaleOf x ≤ most
-  pub longer : (s : List ℕ) (x : ℕ) → (h : length s ≤ 0 → ⊥) → (length (stored s x) < length s → ⊥)
+  pub past : (s : List ℕ) (i : ℕ) → length s ≤ i → reading_of s i ≡ 0
+  pub scaled : (x : ℕ) → scale_of x ≤ most
+  pub longer : (s : List ℕ) (x : ℕ) → (h : length s ≤ 0 → ⊥) → ¬ (length (stored s x) < length s)
 
 abbrev pub SizeSays : Type 0
-SizeSays = (n x : ℕ) → (sizeIn n x ≡ 0) ↔ (n ≡ 0)
+SizeSays = (n x : ℕ) → (size_in n x ≡ 0) ↔ (n ≡ 0)
 
 -- what two stores have in common
 pub record Alike (s t : List ℕ) : Type 0 where
@@ -235,68 +295,91 @@ pub record Alike (s t : List ℕ) : Type 0 where
 """,
     "crates/meter/specs/Examples.antt": """\
 -- A reading, worked out.
-use mathlib.Core.Path.{_≡_}
-use mathlib.Core.List.{[], _∷_}
-use Rattle·meter·specs.specs.Reading.{readingOf}
+use Rattle.std.specs.Prelude.{◌≡◌, [], ◌∷◌}
+use Rattle.meter.specs.Reading.{reading_of}
 
 pub record Example1 : Type 0 where
-  pub second : readingOf (7 ∷ 8 ∷ []) 1 ≡ 8
+  pub second : reading_of (7 ∷ 8 ∷ []) 1 ≡ 8
 """,
     "crates/meter/proofs/Lib.antt": "pub mod Says\npub mod Vectors\n",
     "crates/meter/proofs/Says.antt": """\
 -- What readings are known to do.
-use mathlib.Core.Path.{_≡_, refl}
-use Prim.Native.Nat.{ℕ}
-use Rattle·meter·specs.specs.Reading.{readingOf}
-use Rattle·meter·specs.specs.Laws.{ReadingSays, SizeSays}
+use Rattle.std.proofs.Common.{◌≡◌, ℕ, refl}
+use Rattle.meter.specs.Reading.{reading_of}
+use Rattle.meter.specs.Laws.{ReadingSays, SizeSays}
 
 module _ (n : ℕ) where
   itself : n ≡ n
   itself = refl
 
-pub reading-says : ReadingSays
-unfolding readingOf
-reading-says = record {
+pub reading_says : ReadingSays
+unfolding reading_of
+reading_says = record {
     past = λ s i h. refl;
-    scaled = λ x. search needs;
+    scaled = λ x. search rules;
     longer = λ s x h. omega arith;
 }
 
-pub size-says : SizeSays
-size-says n x = (λ h. refl) , (λ h. refl)
+pub size_says : SizeSays
+size_says n x = ((λ h. refl), (λ h. refl))
 """,
     "crates/meter/proofs/Vectors.antt": """\
 -- specs/Examples.antt, computed.
-use mathlib.Core.Path.{refl}
-use mathlib.Core.List.{[], _∷_}
-use Rattle·meter·specs.specs.Reading.{readingOf}
-use Rattle·meter·specs.specs.Examples.{Example1}
+use Rattle.std.proofs.Common.{[], ◌∷◌, refl}
+use Rattle.meter.specs.Reading.{reading_of}
+use Rattle.meter.specs.Examples.{Example1}
 
 -- serves the next
-second-read : readingOf (7 ∷ 8 ∷ []) 1 ≡ 8
-unfolding readingOf
+second-read : reading_of (7 ∷ 8 ∷ []) 1 ≡ 8
+unfolding reading_of
 second-read = refl
 
-pub example-1 : Example1
-example-1 = record { second = second-read }
+pub example_1 : Example1
+example_1 = record { second = second-read }
 """,
     "crates/meter/proofs/half/Proof.antt": "-- `meter::half` meets its contract.\nreturns c = omega arith\n",
-    "crates/meter/proofs/Meter/add/Proof.antt": "-- `Meter::add` meets its contract.\nreturns c = search needs\n",
-    "crates/meter/proofs/deeper/scale/+scale/Proof.antt": "-- `scale` meets its contract.\nreturns c = search needs\n",
+    "crates/meter/proofs/Meter/add/Answers.antt": """\
+-- `Meter::add` meets its contract.
+use Rattle.meter.proofs.Meter.add.Goals as goal
+
+pub returns : goal.returns
+returns c = search rules
+""",
+    "crates/meter/proofs/deeper/scale/+scale/Invariants.antt": """\
+-- Each call is of a smaller number.
+use Rattle.meter.proofs.deeper.scale.+scale.Given as goal
+
+abbrev pub decreases-scale : goal.decreases-scale
+decreases-scale l = l.x
+""",
+    "crates/meter/proofs/deeper/scale/+scale/Answers.antt": "-- `scale` meets its contract.\nreturns c = search rules\n",
+    "crates/meter/proofs/deeper/turns/+turns/Answers.antt": "-- The turns meet their contracts.\nreturns c = search rules\n",
+    "crates/meter/proofs/deeper/turns/WheelTurns/back/Answers.antt": "-- `Wheel` turns back as it must.\nreturns c = search rules\n",
+    "crates/meter/proofs/deeper/turns/RefWheelStepsU8/step/Answers.antt": "-- A step is as it must be.\nreturns c = search rules\n",
     "crates/meter/must-fail/most_of_65.edit": """\
 # one more than fits
 file: specs/Reading.antt
 old: most = 64
 new: most = 65
 """,
+    "crates/meter/must-fail/scaled_twice.edit": """\
+# a limit that is moved twice, in two files
+file: specs/Reading.antt
+old: scale_of x = cond (leb x most) x most
+new: scale_of x = cond (leb x 63) x most
+old: cond (leb x 63) x most
+new: cond (leb x 63) x 63
+file: src/deeper/scale.rt
+old:     x
+new:     x - 1
+""",
     "crates/show/src/main.rt": """\
 // Shows a reading.
-ghost use mathlib.Core.Path.{_≡_};
-ghost use Prim.Native.Nat.{_≤_};
+ghost use Rattle.std.specs.Prelude.{◌≡◌, ◌≤◌};
 
 fn shown(x: u8) -> u8
-    requires { ⌜ x ≤ 9 ⌝ }
-    ensures { λ r. ⌜ r ≡ x ⌝ }
+    requires { x ≤ 9 }
+    ensures { result ≡ x }
 {
     x
 }
@@ -309,9 +392,9 @@ fn main() {
 }
 
 THEOREMS = [
-    ("meter", "Says", "reading-says", "ReadingSays"),
-    ("meter", "Says", "size-says", "SizeSays"),
-    ("meter", "Vectors", "example-1", "Example1"),
+    ("meter", "Says", "reading_says", "ReadingSays"),
+    ("meter", "Says", "size_says", "SizeSays"),
+    ("meter", "Vectors", "example_1", "Example1"),
 ]
 
-LISTS = {"theorems": THEOREMS, "data": [("meter", "Pair")], "reading": [("reader", "fetch")]}
+LISTS = {"theorems": THEOREMS, "data": [("meter", "Pair")], "reading": [("reader", "fetch"), ("reader", "next")]}

@@ -34,12 +34,21 @@ def changed(source):
     return text.replace(source.old, source.new)
 
 
+def take_away(root, path):
+    """Without the file, and without the folders that it was alone in."""
+    (root / path).unlink()
+    for folder in (root / path).parents:
+        if any(folder.iterdir()):
+            return
+        folder.rmdir()
+
+
 def faults_with(root, source):
     """What the script finds in the right project with one change, which is then taken back."""
     write(root, source.file, changed(source))
     faults = faults_in(root)
     if source.old is None:
-        (root / source.file).unlink()
+        take_away(root, source.file)
     else:
         write(root, source.file, right.FILES[source.file])
     return faults
@@ -58,8 +67,8 @@ def problems_in(root):
         if not any(fault in found for found in faults):
             yield f"{slip}: not refused as `{fault}`, but: {faults}"
     yield from (f"the right project once more: {fault}" for fault in faults_in(root))
-    for slip, text, fault in wrong.TEXTS:
-        found = [each for _, each in [*lines.long_lines("File.antt", text), *lines.unused(text)]]
+    for slip, path, text, fault in wrong.TEXTS:
+        found = [each for _, each in [*lines.long_lines(path, text), *lines.unused(path, text)]]
         if found != ([fault] if fault else []):
             yield f"{slip}: found {found}"
 
