@@ -15,7 +15,7 @@ fn main() {
     if !library.is_file() {
         eprintln!("The library is not at {}.", library.display());
         eprintln!(
-            "Build it first (rt staticlib rimemagpie), or name its folder in RIMEMAGPIE_LIB_DIR."
+            "Build it first (bash tools/build rimemagpie), or name its folder in RIMEMAGPIE_LIB_DIR."
         );
         exit(1);
     }

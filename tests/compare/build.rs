@@ -19,7 +19,7 @@ fn main() {
         let library = folder.join(format!("lib{name}.a"));
         if !library.is_file() {
             eprintln!("The library is not at {}.", library.display());
-            eprintln!("Build it first: rt staticlib {name}");
+            eprintln!("Build it first: bash tools/build {name}");
             exit(1);
         }
         println!("cargo:rerun-if-changed={}", library.display());

@@ -1,7 +1,7 @@
 /*
  * A reader that is slow, or a disk that fills. Loaded in front of the C library (LD_PRELOAD), it changes a program's
- * writes: none takes more than SHORT_WRITE bytes, and behind SHORT_WRITE_BEHIND bytes in all every one fails with
- * ENOSPC. A limit that isn't set is none.
+ * writes to standard output: none takes more than SHORT_WRITE bytes, and behind SHORT_WRITE_BEHIND bytes in all every
+ * one fails with ENOSPC. A limit that isn't set is none.
  */
 #define _GNU_SOURCE
 #include "limit.h"
@@ -15,6 +15,8 @@ ssize_t write(int fd, const void *bytes, size_t size)
     size_t left = limit("SHORT_WRITE_BEHIND") - taken;
     ssize_t more;
 
+    if (fd != STDOUT_FILENO)
+        return syscall(SYS_write, fd, bytes, size);
     if (left == 0) {
         errno = ENOSPC;
         return -1;

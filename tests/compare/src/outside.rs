@@ -57,7 +57,7 @@ fn built(variable: &str, usual: &str, file: Option<&str>) -> PathBuf {
     path.extend(file);
     assert!(
         path.is_file(),
-        "{} is not there: build it first, or set {variable}",
+        "{} is not there: build it first (tools/build), or set {variable}",
         path.display()
     );
     path
@@ -114,9 +114,16 @@ pub fn run_well(command: &mut Command) -> String {
 /// Runs a command that must succeed within a time, at the end of which it is stopped, and gives
 /// what it wrote: a few lines, which a pipe has room for.
 pub fn run_within(limit: Duration, command: &mut Command) -> String {
+    let output = output_within(limit, command);
+    written(command, output)
+}
+
+/// Runs a command that must end within a time, at the end of which it is stopped. What it writes a
+/// pipe has room for.
+pub fn output_within(limit: Duration, command: &mut Command) -> Output {
     let mut child = captured(command);
     ended_within(limit, command, &mut child);
-    written(command, output(child))
+    output(child)
 }
 
 /// Starts a command whose output is kept.

@@ -6,8 +6,9 @@ use crate::outside::{ended_within, repository_file, run, run_well, started_unrea
 use std::fs::{self, File};
 use std::io::{ErrorKind, Write};
 use std::os::unix::fs::{symlink, OpenOptionsExt};
+use std::os::unix::process::ExitStatusExt;
 use std::path::{Path, PathBuf};
-use std::process::{Command, ExitStatus};
+use std::process::{Command, ExitStatus, Output, Stdio};
 use std::sync::mpsc::{self, Receiver};
 use std::thread;
 use std::time::{Duration, SystemTime};
@@ -17,9 +18,6 @@ pub const CARD: &str = "book.card";
 
 /// Far more time than a program needs.
 pub const LIMIT: Duration = Duration::from_secs(30);
-
-/// The signal that tells a writer that its reader is gone.
-pub const SIGPIPE: i32 = 13;
 
 /// What stands at a name.
 #[derive(Clone, Copy)]
@@ -61,6 +59,28 @@ pub fn judged_by(command: &mut Command, folder: &Folder) -> String {
     assert!(status.success(), "{command:?} ended with {status}");
     assert_eq!(output.stderr, b"", "{command:?} wrote to standard error");
     String::from_utf8(output.stdout).expect("a program writes text")
+}
+
+/// How a program ends whose lines can't be written: with the status 1, in place of 0.
+pub fn unwritten() -> ExitStatus {
+    ExitStatus::from_raw(1 << 8)
+}
+
+/// What a program wrote of its lines, of which its output took no more: it says why and ends.
+pub fn written_in_part(command: &Command, output: Output) -> String {
+    assert_eq!(output.status, unwritten(), "{command:?}");
+    let error = String::from_utf8_lossy(&output.stderr);
+    assert!(error.starts_with("Error: "), "{command:?} wrote {error:?}");
+    String::from_utf8(output.stdout).expect("a program writes text")
+}
+
+/// Runs a program in a folder, which it must leave as it was, and gives what it wrote of its lines
+/// before its output took no more.
+pub fn stopped_by(command: &mut Command, folder: &Folder) -> String {
+    let before = contents(folder);
+    let output = run(command.current_dir(folder.path()));
+    assert!(contents(folder) == before, "{command:?} changed a file");
+    written_in_part(command, output)
 }
 
 /// Name, bytes (of a file) and time of the last change of all that a folder holds.
@@ -158,7 +178,8 @@ pub fn full_disk() -> File {
 /// folder stands a pipe, which gives its bytes behind that.
 pub fn ends_unread(mut command: Command, folder: &Folder, name: &str, bytes: &[u8]) -> ExitStatus {
     let pipe = pipe(folder, name);
-    let mut child = started_unread(command.current_dir(folder.path()));
+    command.current_dir(folder.path()).stderr(Stdio::null());
+    let mut child = started_unread(&mut command);
     fed(pipe, [bytes.to_vec()].into_iter());
     ended_within(LIMIT, &command, &mut child)
 }

@@ -7,11 +7,11 @@ use compare::generate::pairs;
 use compare::harness::{for_each_case, on_bytes, Tally};
 use compare::met_comparison::{self as met, OF_A_MESSAGE};
 use compare::outside::{
-    compare_messages, ended_within, repository_file, run_within, started, Folder,
+    compare_messages, ended_within, output_within, repository_file, run_within, started, Folder,
 };
 use compare::programs::{
-    by_shell, contents, ends_unread, full_disk, judged_by, judged_in_pieces, put, At, Disk, LIMIT,
-    SIGPIPE,
+    by_shell, contents, ends_unread, full_disk, judged_by, judged_in_pieces, put, stopped_by,
+    unwritten, written_in_part, At, Disk, LIMIT,
 };
 use compare::recordings::same_lines;
 use reference::comparison::lines;
@@ -21,8 +21,7 @@ use reference::comparison_examples::{
 use reference::examples::message_with;
 use reference::program::compared_in_words;
 use std::fs;
-use std::os::unix::process::ExitStatusExt;
-use std::process::{Command, ExitStatus};
+use std::process::{Command, Stdio};
 
 const FIRST: &str = "first.bin";
 const SECOND: &str = "second.bin";
@@ -274,11 +273,14 @@ fn folder_of_lines() -> (Folder, String) {
 #[test]
 fn writes_that_take_few_bytes() {
     let (disk, (folder, text)) = (Disk::new(), folder_of_lines());
-    let taking = |piece: usize, folder: &Folder| {
+    let in_folder = |piece: usize, folder: &Folder| {
         let mut command = disk.taking(&compare_messages(), piece);
-        run_within(LIMIT, command.current_dir(folder.path()))
+        command.current_dir(folder.path());
+        command
     };
-    assert_eq!(taking(0, &folder), "");
+    let taking = |piece, folder: &Folder| run_within(LIMIT, &mut in_folder(piece, folder));
+    let output = output_within(LIMIT, &mut in_folder(0, &folder));
+    assert_eq!(written_in_part(&in_folder(0, &folder), output), "");
     for piece in 1..=text.len() + 1 {
         assert_eq!(taking(piece, &folder), text, "{piece} bytes to a write");
     }
@@ -289,21 +291,22 @@ fn writes_that_take_few_bytes() {
     }
 }
 
-/// A disk that fills behind some bytes has taken the front of the lines, and the program ends well.
+/// A disk that fills behind some bytes has taken the front of the lines, and the program says so and
+/// ends.
 #[test]
 fn a_disk_that_fills() {
     let (disk, (folder, text)) = (Disk::new(), folder_of_lines());
-    for behind in 0..=text.len() {
-        let mut command = disk.filling(&compare_messages(), behind);
-        assert_eq!(judged_by(&mut command, &folder), text[..behind]);
+    let filling = |behind: usize| disk.filling(&compare_messages(), behind);
+    for behind in 0..text.len() {
+        assert_eq!(stopped_by(&mut filling(behind), &folder), text[..behind]);
     }
+    assert_eq!(judged_by(&mut filling(text.len()), &folder), text);
 }
 
 /// Where its lines can't be written the program ends: the reader is gone, with the signal that tells
 /// so and without it, the disk is full, or there is no standard output.
 #[test]
 fn an_output_that_takes_nothing() {
-    let (well, by_signal) = (ExitStatus::default(), ExitStatus::from_raw(SIGPIPE));
     let program = compare_messages();
     for name in [FIRST, SECOND] {
         let unread = |command| {
@@ -312,17 +315,18 @@ fn an_output_that_takes_nothing() {
             folder.write(other, &recorded());
             ends_unread(command, &folder, name, &recorded())
         };
-        assert_eq!(unread(Command::new(&program)), by_signal);
+        assert_eq!(unread(Command::new(&program)), unwritten());
         let ignoring = by_shell(&program, "trap '' PIPE; exec \"$1\"");
-        assert_eq!(unread(ignoring), well);
+        assert_eq!(unread(ignoring), unwritten());
     }
     let (folder, _) = folder_of_lines();
     let before = contents(&folder);
     let mut on_full = Command::new(&program);
     on_full.stdout(full_disk());
     for mut command in [on_full, by_shell(&program, "exec \"$1\" >&-")] {
-        let mut child = started(command.current_dir(folder.path()));
-        assert_eq!(ended_within(LIMIT, &command, &mut child), well);
+        command.current_dir(folder.path()).stderr(Stdio::null());
+        let mut child = started(&mut command);
+        assert_eq!(ended_within(LIMIT, &command, &mut child), unwritten());
     }
     assert!(contents(&folder) == before, "the program changed a file");
 }

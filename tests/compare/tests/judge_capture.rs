@@ -8,10 +8,12 @@ use compare::generate::frames::Draft;
 use compare::generate::{books, captures, cards, frames, messages};
 use compare::harness::{cases, for_each_case, on_bytes, Difference, Tally};
 use compare::met;
-use compare::outside::{ended_within, judge_capture, repository_file, run_within, started, Folder};
+use compare::outside::{
+    ended_within, judge_capture, output_within, repository_file, run_within, started, Folder,
+};
 use compare::programs::{
-    by_shell, contents, fed, full_disk, judged_by, judged_in_pieces, pipe, At, Disk, CARD, LIMIT,
-    SIGPIPE,
+    by_shell, contents, fed, full_disk, judged_by, judged_in_pieces, pipe, stopped_by, unwritten,
+    written_in_part, At, Disk, CARD, LIMIT,
 };
 use compare::random::Random;
 use compare::recordings::{
@@ -25,8 +27,7 @@ use reference::examples::{
 };
 use std::fs;
 use std::io::{ErrorKind, Read};
-use std::os::unix::process::ExitStatusExt;
-use std::process::{Command, ExitStatus, Stdio};
+use std::process::{Command, Stdio};
 use std::thread;
 
 /// Book B's recording, on either of its cards and on the one from before anything was accepted.
@@ -497,8 +498,8 @@ fn writes_that_take_few_bytes() {
     let disk = Disk::new();
     let taking = |piece: usize| disk.taking(&judge_capture(), piece);
     let folder = folder_of_b();
-    let text = run_within(LIMIT, taking(0).current_dir(folder.path()));
-    assert_eq!(text, "");
+    let output = output_within(LIMIT, taking(0).current_dir(folder.path()));
+    assert_eq!(written_in_part(&taking(0), output), "");
     for (count, piece) in [(300, 1), (300, 7), (6_000, 4_096), (6_000, 65_535)] {
         let capture = right_capture(Order::Little, count);
         let text = both_by(&mut taking(piece), &NEW_CARD_B, &capture);
@@ -515,18 +516,21 @@ fn many_right_records() -> (Folder, String) {
     (folder, lines)
 }
 
-/// A disk that fills behind some bytes has taken the front of the lines, and the program ends well.
+/// A disk that fills behind some bytes has taken the front of the lines, and the program says so and
+/// ends.
 #[test]
 fn a_disk_that_fills() {
     let disk = Disk::new();
     let (folder, lines) = many_right_records();
     let (first, all) = (ACCEPTED.len(), lines.len());
     let in_lines = [0, 1, first, first + 10, 65_535, 65_536, 65_537, 131_072];
-    for behind in in_lines.into_iter().chain([all - 1, all]) {
-        let text = judged_by(&mut disk.filling(&judge_capture(), behind), &folder);
+    let filling = |behind: usize| disk.filling(&judge_capture(), behind);
+    for behind in in_lines.into_iter().chain([all - 1]) {
+        let text = stopped_by(&mut filling(behind), &folder);
         let same = same_lines(&lines[..behind], &text);
         same.unwrap_or_else(|difference| panic!("behind {behind} bytes: {difference}"));
     }
+    assert!(judged_by(&mut filling(all), &folder) == lines);
 }
 
 /// Reads as many bytes as these, which they must be, and goes.
@@ -537,8 +541,9 @@ fn reads_alone(front: &str, output: impl Read) {
     same_lines(front, &text).unwrap_or_else(|difference| panic!("{difference}"));
 }
 
-/// Runs a program of whose lines only the front is read. It must end, and in this way.
-fn ends_in(folder: &Folder, command: &mut Command, front: &str, end: ExitStatus) {
+/// Runs a program of whose lines only the front is read. It must end, as one whose lines can't be
+/// written.
+fn ends_in(folder: &Folder, command: &mut Command, front: &str) {
     let mut child = started(command.current_dir(folder.path()));
     let status = thread::scope(|scope| {
         if let Some(output) = child.stdout.take() {
@@ -546,21 +551,21 @@ fn ends_in(folder: &Folder, command: &mut Command, front: &str, end: ExitStatus)
         }
         ended_within(LIMIT, command, &mut child)
     });
-    assert_eq!(status, end, "{command:?}");
+    assert_eq!(status, unwritten(), "{command:?}");
 }
 
 /// Runs a program on many records in a file, which it must leave as it was, and on records without
 /// end. So many bytes of its lines are read and no more.
-fn ends_unread(mut command: Command, output: Stdio, read: usize, end: ExitStatus) {
-    command.stdout(output);
+fn ends_unread(mut command: Command, output: Stdio, read: usize) {
+    command.stdout(output).stderr(Stdio::null());
     let (folder, lines) = many_right_records();
     let before = contents(&folder);
-    ends_in(&folder, &mut command, &lines[..read], end);
+    ends_in(&folder, &mut command, &lines[..read]);
     assert!(contents(&folder) == before, "{command:?} changed a file");
 
     let endless = folder_with(At::File(&NEW_CARD_B), At::Nothing);
     let failed = fed(pipe(&endless, CAPTURE), endless_capture(Order::Little));
-    ends_in(&endless, &mut command, &lines[..read], end);
+    ends_in(&endless, &mut command, &lines[..read]);
     let broken = Ok(Some(ErrorKind::BrokenPipe));
     assert_eq!(failed.recv_timeout(LIMIT), broken, "{command:?}");
 }
@@ -570,16 +575,15 @@ fn ends_unread(mut command: Command, output: Stdio, read: usize, end: ExitStatus
 /// output.
 #[test]
 fn an_output_that_takes_nothing() {
-    let (well, by_signal) = (ExitStatus::default(), ExitStatus::from_raw(SIGPIPE));
     let (program, disk) = (judge_capture(), Disk::new());
     for read in [0, 1, 70_000] {
-        ends_unread(Command::new(&program), Stdio::piped(), read, by_signal);
+        ends_unread(Command::new(&program), Stdio::piped(), read);
         let ignoring = by_shell(&program, "trap '' PIPE; exec \"$1\"");
-        ends_unread(ignoring, Stdio::piped(), read, well);
-        ends_unread(disk.filling(&program, read), Stdio::piped(), read, well);
+        ends_unread(ignoring, Stdio::piped(), read);
+        ends_unread(disk.filling(&program, read), Stdio::piped(), read);
     }
     let full = full_disk().into();
-    ends_unread(Command::new(&program), full, 0, well);
+    ends_unread(Command::new(&program), full, 0);
     let closed = by_shell(&program, "exec \"$1\" >&-");
-    ends_unread(closed, Stdio::null(), 0, well);
+    ends_unread(closed, Stdio::null(), 0);
 }

@@ -5,10 +5,12 @@
 
 use compare::generate::{books, cards};
 use compare::harness::{for_each_case, same, Tally};
-use compare::outside::{ended_within, known, repository_file, run_within, started, Folder};
+use compare::outside::{
+    ended_within, known, output_within, repository_file, run_within, started, Folder,
+};
 use compare::programs::{
-    by_shell, contents, ends_unread, full_disk, judged_by, pipe, put, run_on_pieces, At, Disk,
-    CARD, LIMIT, SIGPIPE,
+    by_shell, contents, ends_unread, full_disk, judged_by, pipe, put, run_on_pieces, stopped_by,
+    unwritten, written_in_part, At, Disk, CARD, LIMIT,
 };
 use compare::random::Random;
 use reference::card::{card_of_rows, rows_of_card, Form, Row};
@@ -17,8 +19,7 @@ use reference::program::{id_of_argument, known_in_words};
 use std::ffi::OsStr;
 use std::fs;
 use std::os::unix::ffi::OsStrExt;
-use std::os::unix::process::ExitStatusExt;
-use std::process::{Command, ExitStatus};
+use std::process::{Command, Stdio};
 
 /// The command with these arguments.
 fn with(mut command: Command, arguments: &[&[u8]]) -> Command {
@@ -440,43 +441,48 @@ fn writes_that_take_few_bytes() {
     let (disk, folder) = (Disk::new(), folder_of_b());
     let taking = |piece: usize| {
         let mut command = with(disk.taking(&known(), piece), &[b"7"]);
-        run_within(LIMIT, command.current_dir(folder.path()))
+        command.current_dir(folder.path());
+        command
     };
-    assert_eq!(taking(0), "");
+    let output = output_within(LIMIT, &mut taking(0));
+    assert_eq!(written_in_part(&taking(0), output), "");
     for piece in 1..=13 {
-        assert_eq!(taking(piece), "known row 0\n", "{piece} bytes to a write");
+        let text = run_within(LIMIT, &mut taking(piece));
+        assert_eq!(text, "known row 0\n", "{piece} bytes to a write");
     }
 }
 
-/// A disk that fills behind some bytes has taken the front of the line, and the program ends well.
+/// A disk that fills behind some bytes has taken the front of the line, and the program says so and
+/// ends.
 #[test]
 fn a_disk_that_fills() {
     let (disk, folder) = (Disk::new(), folder_of_b());
     let line = "known row 0\n";
-    for behind in 0..=line.len() {
-        let command = disk.filling(&known(), behind);
-        let text = judged_by(&mut with(command, &[b"7"]), &folder);
+    let filling = |behind: usize| with(disk.filling(&known(), behind), &[b"7"]);
+    for behind in 0..line.len() {
+        let text = stopped_by(&mut filling(behind), &folder);
         assert_eq!(text, line[..behind]);
     }
+    assert_eq!(judged_by(&mut filling(line.len()), &folder), line);
 }
 
 /// Where its line can't be written the program ends: the reader is gone, with the signal that tells so
 /// and without it, the disk is full, or there is no standard output.
 #[test]
 fn an_output_that_takes_nothing() {
-    let (well, by_signal) = (ExitStatus::default(), ExitStatus::from_raw(SIGPIPE));
     let asked = || with(Command::new(known()), &[b"7"]);
     let unread = |command| ends_unread(command, &Folder::new(), CARD, &NEW_CARD_B);
-    assert_eq!(unread(asked()), by_signal);
+    assert_eq!(unread(asked()), unwritten());
     let ignoring = by_shell(&known(), "trap '' PIPE; exec \"$1\" 7");
-    assert_eq!(unread(ignoring), well);
+    assert_eq!(unread(ignoring), unwritten());
     let folder = folder_of_b();
     let before = contents(&folder);
     let mut on_full = asked();
     on_full.stdout(full_disk());
     for mut command in [on_full, by_shell(&known(), "exec \"$1\" 7 >&-")] {
-        let mut child = started(command.current_dir(folder.path()));
-        assert_eq!(ended_within(LIMIT, &command, &mut child), well);
+        command.current_dir(folder.path()).stderr(Stdio::null());
+        let mut child = started(&mut command);
+        assert_eq!(ended_within(LIMIT, &command, &mut child), unwritten());
     }
     assert!(contents(&folder) == before, "known changed a file");
 }

@@ -63,7 +63,10 @@ fn refusals_in_rattle() -> Vec<Named> {
 
 #[test]
 fn refusals_are_the_same_in_the_specification() {
-    let specified = refusals_in("crates/refusal/specs/Number.antt", ["numberOf ", " = ", ""]);
+    let specified = refusals_in(
+        "crates/refusal/specs/Number.antt",
+        ["number_of ", " = ", ""],
+    );
     assert_eq!(specified, refusals_in_rattle());
 }
 
@@ -156,7 +159,7 @@ fn phases_and_forms_are_the_same_in_rattle_c_and_rust() {
     let phases = bytes_in(second, &["READING", "CLOSED", "FAULT"]);
     let rattle = named_in(
         &text_of("crates/card_pieces/specs/Numbers.antt"),
-        ["phaseNumber ", " = ", ""],
+        ["phase_number ", " = ", ""],
     );
     let upper = |(name, number): &Named| (name.to_uppercase(), *number);
     assert_eq!(rattle.iter().map(upper).collect::<Vec<_>>(), phases);
@@ -165,7 +168,7 @@ fn phases_and_forms_are_the_same_in_rattle_c_and_rust() {
     let forms = bytes_in(second, &["NO_ROW", "OLD", "NEW"]);
     let rattle = named_in(
         &text_of("crates/book_card/specs/Layout.antt"),
-        ["rowKind ", " = ", ""],
+        ["row_kind ", " = ", ""],
     );
     assert_eq!(rattle.iter().map(upper).collect::<Vec<_>>(), forms[1..]);
     let forms: Vec<Named> = forms.into_iter().map(in_c).collect();
