@@ -1,14 +1,13 @@
 -- Laws of comparing two byte strings: byte after byte, and that they are the same exactly where the lists are equal.
-use mathlib.Core.Path.{◌≡◌, refl, sym, ap, ◌∙◌}
-use mathlib.Core.Logic.{◌≢◌}
+use mathlib.Core.Path.{◌≡◌, refl, sym, ap}
+use mathlib.Core.Logic.{◌≢◌, ◌⊎◌, inl, inr}
 use mathlib.Core.Bool.{Bool, true, false, ◌&&◌, true≢false, and-eq-true_iff}
 use mathlib.Core.List.{List, [], ◌∷◌}
-use Prim.Native.Nat.{ℕ, suc, ◌≤◌, ◌<◌}
+use Prim.Native.Nat.{ℕ}
 use native.Mathlib.Omega.{arith}
 use borrow.Author.Tests.{eq-eqb, eqb-true}
 use lib.Dec.{eqb}
-use lib.ListN.{length, get_or, drop, drop_of_length-le}
-use lib.Seq.{drop-cons}
+use lib.ListN.{length}
 use Rattle.octets.specs.Bytes.{same_bytes}
 
 -- ---- one byte after the other
@@ -21,16 +20,22 @@ pub and_true : (a : Bool) → (a && true) ≡ a
 and_true true = refl
 and_true false = refl
 
-pub same_turn : (s : Bool) (xs ys : List ℕ) (i : ℕ) → i < length xs → i < length ys
-    → (s && eqb (get_or xs i 0) (get_or ys i 0) && same_bytes (drop (suc i) xs) (drop (suc i) ys)) ≡ (s && same_bytes (drop i xs) (drop i ys))
+pub same_turn : (s : Bool) (x y : ℕ) (xs ys p q : List ℕ) → p ≡ x ∷ xs → q ≡ y ∷ ys → length p ≡ length q
+    → (length xs ≡ length ys) × ((s && eqb x y && same_bytes xs ys) ≡ (s && same_bytes p q))
 unfolding same_bytes
-same_turn s xs ys i h k =
-    and_assoc s (eqb (get_or xs i 0) (get_or ys i 0)) (same_bytes (drop (suc i) xs) (drop (suc i) ys))
-    ∙ ap (λ (b : Bool). s && b) (sym (rw (drop-cons xs i 0 h, drop-cons ys i 0 k)))
+same_turn s x y xs ys p q e f l = (omega (arith, ap length e, ap length f), rw (e, f) (and_assoc s (eqb x y) (same_bytes xs ys)))
 
-pub same_end : (s : Bool) (xs ys : List ℕ) (i : ℕ) → length xs ≤ i → length ys ≤ i → s ≡ (s && same_bytes (drop i xs) (drop i ys))
+-- one of the two is at its end, and so is the other
+pub same_end : (s : Bool) (xs ys : List ℕ) → length xs ≡ length ys → (xs ≡ []) ⊎ (ys ≡ []) → s ≡ (s && same_bytes xs ys)
 unfolding same_bytes
-same_end s xs ys i h k = rw (drop_of_length-le xs h, drop_of_length-le ys k) (sym (and_true s))
+same_end s [] [] l h = sym (and_true s)
+same_end s [] (y ∷ ys) l h = absurd (omega arith)
+same_end s (x ∷ xs) [] l h = absurd (omega arith)
+same_end s (x ∷ xs) (y ∷ ys) l h =
+    elim h [
+      | inl e ↦ absurd (omega (arith, ap length e))
+      | inr e ↦ absurd (omega (arith, ap length e))
+    ]
 
 -- ---- `same_bytes` is true exactly where the lists are equal
 

@@ -1,16 +1,21 @@
--- What each turn keeps in the loops that clear bytes, and read or write a number.
-use mathlib.Core.Path.{◌≡◌, refl, sym, ap, ap₂, ◌∙◌}
-use mathlib.Core.List.{List, [], ◌∷◌, ◌++◌}
-use Prim.Native.Nat.{ℕ, suc, ◌+◌, ◌-◌, ◌*◌, ◌/◌, ◌%◌, ◌^◌, ◌≤◌, ◌<◌}
-use native.Mathlib.Nat.{add-zero, pow-zero, pow-suc, pow-le-pow_right}
+-- What each turn keeps in the loops that read or write a number.
+use mathlib.Core.Path.{◌≡◌, refl, sym, ap, ◌∙◌}
+use mathlib.Core.List.{List, [], ◌∷◌, ◌++◌, append-nil}
+use Prim.Native.Nat.{ℕ, zero, suc, ◌+◌, ◌-◌, ◌*◌, ◌/◌, ◌%◌, ◌^◌, ◌≤◌, ◌<◌}
+use native.Mathlib.Nat.{add_comm, pow-le-pow_right}
 use native.Mathlib.Numerals.{add-one}
 use native.Mathlib.Omega.{arith}
-use lib.ListN.{length, get_or, set, length-set}
-use lib.Seq.{drop-cons}
-use Rattle.octets.specs.Bytes.{written, zeros}
+use lib.ListN.{length, get_or, take, drop, set, length-set, length-drop, drop_of_length-le}
+use lib.Seq.{length-take-le, take-suc, take_all, take-suc-set, append_snoc, get_or-drop, drop-cons}
+use mir.Syntax.{w8}
+use mir.Val.{Fits}
+use Rattle.std.specs.List.{push}
+use Rattle.octets.specs.Bytes.{written}
 use Rattle.octets.specs.Numbers.{le, value, little_at, be, big_at}
-use Rattle.octets.proofs.Written.{length_written, written_join, written_none, written_cons, written_snoc}
-use Rattle.octets.proofs.HighFirst.{be_length}
+use Rattle.octets.proofs.Elements.{bytes_lent}
+use Rattle.octets.proofs.Written.{length_written, written_join, written_none, written_cons, written_snoc, copied_part}
+use Rattle.octets.proofs.LowFirst.{le_length, number_fits}
+use Rattle.octets.proofs.HighFirst.{be_length, big_fits}
 
 -- ---- writing
 
@@ -45,63 +50,6 @@ module _ (old target new : List ℕ) (p : ℕ) where
   pub writing_end : Writing old target new p [] → new ≡ target
   writing_end w = sym (written_none p new) ∙ w.rest
 
--- ---- `clear`
-
-pub record Clearing (old : List ℕ) (at count : ℕ) (new : List ℕ) (i : ℕ) : Type 0 where
-  pub within : i ≤ count
-  pub writing : Writing old (written at (zeros count) old) new (at + i) (zeros (count - i))
-
-module _ (old : List ℕ) (at count : ℕ) where
-  pub clearing_start : Clearing old at count old 0
-  clearing_start =
-      record {
-        within = omega arith;
-        writing = record { long = refl; rest = let e : count - 0 ≡ count = omega arith in rw (e, add-zero at) };
-      }
-
-  module _ (new : List ℕ) (i : ℕ) (c : Clearing old at count new i) where
-    pub clearing_turn : at + count ≤ length old → i < count → Clearing old at count (set new (at + i) 0) (i + 1)
-    clearing_turn fits l =
-        let e : count - i ≡ suc (count - (i + 1)) = omega arith in
-        let q : at + i + 1 ≡ at + (i + 1) = omega arith in
-        let w = writing_front old (written at (zeros count) old) new (at + i) 0 (zeros (count - (i + 1))) (omega arith) (rw e at c.writing) in
-        record { within = omega arith; writing = rw q at w }
-
-    pub clearing_end : count ≤ i → new ≡ written at (zeros count) old
-    clearing_end l =
-        let e : count - i ≡ 0 = omega arith in
-        writing_end old (written at (zeros count) old) new (at + i) (rw e at c.writing)
-
--- ---- `put_little`: `left` is what of the number is still to be written
-
-pub record PuttingLow (old : List ℕ) (at width x : ℕ) (new : List ℕ) (left i : ℕ) : Type 0 where
-  pub within : i ≤ width
-  pub writing : Writing old (written at (le width x) old) new (at + i) (le (width - i) left)
-
-module _ (old : List ℕ) (at width x : ℕ) where
-  pub putting_low_start : PuttingLow old at width x old x 0
-  putting_low_start =
-      record {
-        within = omega arith;
-        writing = record { long = refl; rest = let e : width - 0 ≡ width = omega arith in rw (e, add-zero at) };
-      }
-
-  module _ (new : List ℕ) (left i : ℕ) (c : PuttingLow old at width x new left i) where
-    pub putting_low_turn : at + width ≤ length old → i < width → PuttingLow old at width x (set new (at + i) (left % 256)) (left / 256) (i + 1)
-    unfolding le
-    putting_low_turn fits l =
-        let e : width - i ≡ suc (width - (i + 1)) = omega arith in
-        let q : at + i + 1 ≡ at + (i + 1) = omega arith in
-        let more = le (width - (i + 1)) (left / 256) in
-        let w = writing_front old (written at (le width x) old) new (at + i) (left % 256) more (omega arith) (rw e at c.writing) in
-        record { within = omega arith; writing = rw q at w }
-
-    pub putting_low_end : width ≤ i → new ≡ written at (le width x) old
-    unfolding le
-    putting_low_end l =
-        let e : width - i ≡ 0 = omega arith in
-        writing_end old (written at (le width x) old) new (at + i) (rw e at c.writing)
-
 -- ---- `put_big`: the first `left` bytes are still to be written, and hold `rest`
 
 abbrev pub PuttingHigh : List ℕ → ℕ → ℕ → ℕ → List ℕ → ℕ → ℕ → Type 0
@@ -128,81 +76,136 @@ module _ (old : List ℕ) (at width x : ℕ) where
       let e : left ≡ 0 = omega arith in
       writing_end old (written at (be width x) old) new at (rw e at c.1)
 
--- ---- `little`: a number is being read from its highest byte down
+-- ---- `put_little`: the front of the part holds the first bytes of the number, and `rest` what is left of it
 
-pub record ReadingLow (s : List ℕ) (at width x left : ℕ) : Type 0 where
-  pub within : left ≤ width
-  pub rest : x ≡ little_at s (at + left) (width - left)
-  pub small : x < 256 ^ (width - left)
+module _
+    (old : List ℕ) (at width x : ℕ) (within : at + width ≤ length old)
+    (part : List ℕ) (long : length part ≡ length (take (at + width - at) (drop at old)))
+  where
+    part_long : length part ≡ width
+    part_long = long ∙ length-take-le (at + width - at) (drop at old) (rw length-drop (omega arith)) ∙ omega arith
 
--- what is read fits eight bytes
-eight : (n x : ℕ) → n ≤ 8 → x < 256 ^ n → x < 2 ^ 64
-eight n x h l =
-    let m : 256 ^ n ≤ 256 ^ 8 = pow-le-pow_right {n = 256} (omega arith) {i = n} {j = 8} h in
+    pub putting_low_turn : (rest i : ℕ) → i < length part → take i part ++ le (width - i) rest ≡ le width x
+        → take (i + 1) (set part i (rest % 256)) ++ le (width - (i + 1)) (rest / 256) ≡ le width x
+    unfolding le
+    putting_low_turn rest i h e =
+        let n : width - i ≡ suc (width - (i + 1)) = omega (arith, part_long) in
+        let front : take (i + 1) (set part i (rest % 256)) ≡ take i part ++ (rest % 256 ∷ []) = rw (add-one i) (take-suc-set part i (rest % 256) h) in
+        rw (front, append_snoc) (rw n at e)
+
+    pub putting_low_end : (rest i : ℕ) → length part ≤ i → take i part ++ le (width - i) rest ≡ le width x
+        → take at old ++ (part ++ drop (at + width - at) (drop at old)) ≡ written at (le width x) old
+    unfolding le
+    putting_low_end rest i h e =
+        let n : width - i ≡ 0 = omega (arith, part_long) in
+        let k : at + width - at ≡ length (le width x) = omega (arith, le_length width x) in
+        let p : part ≡ le width x = sym (append-nil part) ∙ rw (n, take_all i part h) at e in
+        copied_part at (at + width - at) (le width x) part old p k
+
+-- ---- reading: a number x, and the bytes that are left, behind it or before it
+
+-- the lowest byte first: the next one is the last of those that are left
+pub low_over : List ℕ → ℕ → ℕ
+low_over [] x = x
+low_over (b ∷ bs) x = b + 256 * low_over bs x
+
+pub low_over_none : (bs : List ℕ) → low_over bs 0 ≡ value bs
+unfolding low_over value
+low_over_none [] = refl
+low_over_none (b ∷ bs) = ap (λ (n : ℕ). b + 256 * n) (low_over_none bs)
+
+pub low_over_last : (bs : List ℕ) (b x : ℕ) → low_over (bs ++ (b ∷ [])) x ≡ low_over bs (b + 256 * x)
+unfolding low_over
+low_over_last [] b x = refl
+low_over_last (c ∷ bs) b x = ap (λ (n : ℕ). c + 256 * n) (low_over_last bs b x)
+
+pub low_over_least : (bs : List ℕ) (x : ℕ) → x ≤ low_over bs x
+unfolding low_over
+low_over_least [] x = omega arith
+low_over_least (b ∷ bs) x = omega (arith, low_over_least bs x)
+
+-- the highest byte first
+pub high_over : List ℕ → ℕ → ℕ
+high_over [] x = x
+high_over (b ∷ bs) x = high_over bs (b + 256 * x)
+
+pub high_over_first : (bs : List ℕ) (b x : ℕ) → high_over (b ∷ bs) x ≡ high_over bs (b + 256 * x)
+unfolding high_over
+high_over_first bs b x = refl
+
+pub high_over_last : (bs : List ℕ) (b x : ℕ) → high_over (bs ++ (b ∷ [])) x ≡ b + 256 * high_over bs x
+unfolding high_over
+high_over_last [] b x = refl
+high_over_last (c ∷ bs) b x = high_over_last bs b (c + 256 * x)
+
+pub high_over_least : (bs : List ℕ) (x : ℕ) → x ≤ high_over bs x
+unfolding high_over
+high_over_least [] x = omega arith
+high_over_least (b ∷ bs) x = omega (arith, high_over_least bs (b + 256 * x))
+
+pub high_over_none : (s : List ℕ) (at n : ℕ) → at + n ≤ length s → high_over (take n (drop at s)) 0 ≡ big_at s at n
+unfolding high_over big_at
+high_over_none s at zero h = refl
+high_over_none s at (suc n) h =
+    let l : n < length (drop at s) = rw length-drop (omega arith) in
+    rw (take-suc (drop at s) n 0 l, get_or-drop)
+    (high_over_last (take n (drop at s)) (get_or s (at + n) 0) 0 ∙ ap (λ (x : ℕ). get_or s (at + n) 0 + 256 * x) (high_over_none s at n (omega arith)))
+
+-- ---- `little` and `big`: what is read fits, since it is no more than the whole
+
+-- the whole, in so many bytes, at most eight; and a number on the way to it
+eight : (n whole x : ℕ) → n ≤ 8 → whole < 256 ^ n → x ≤ whole → x < 2 ^ 64
+eight n whole x h l m =
+    let p : 256 ^ n ≤ 256 ^ 8 = pow-le-pow_right {n = 256} (omega arith) {i = n} {j = 8} h in
     omega arith
 
-module _ (s : List ℕ) (at width : ℕ) where
-  pub reading_low_start : ReadingLow s at width 0 width
-  unfolding little_at value
-  reading_low_start =
-      let e : width - width ≡ 0 = omega arith in
-      let z = pow-zero 256 in
-      record { within = omega arith; rest = rw e; small = rw e (omega arith) }
+module _ (s : List ℕ) (at width : ℕ) (bytes : (k : ℕ) → Fits w8 (get_or s k 0)) (few : width ≤ 8) (within : at + width ≤ length s) where
+  abbrev pub part : List ℕ
+  part = take (at + width - at) (drop at s)
 
-  module _ (x left : ℕ) (r : ReadingLow s at width x left) (fits : at + width ≤ length s) (more : 0 < left) (byte : get_or s (at + (left - 1)) 0 < 256) where
-    pub reading_low_turn : ReadingLow s at width (get_or s (at + (left - 1)) 0 + 256 * x) (left - 1)
-    unfolding little_at value
-    reading_low_turn =
-        let w = r.within in
-        let e : width - (left - 1) ≡ suc (width - left) = omega arith in
-        let f : suc (at + (left - 1)) ≡ at + left = omega arith in
-        let l : at + (left - 1) < length s = omega arith in
-        let p = pow-suc 256 (width - left) in
-        let m = r.small in
-        record {
-          within = omega arith;
-          rest = rw (e, drop-cons s (at + (left - 1)) 0 l, f) (ap (λ (n : ℕ). get_or s (at + (left - 1)) 0 + 256 * n) r.rest);
-          small = rw e (omega arith);
-        }
+  part_of : part ≡ take width (drop at s)
+  part_of = let e : at + width - at ≡ width = omega arith in rw e
 
-    pub reading_low_fits : width ≤ 8 → get_or s (at + (left - 1)) 0 + 256 * x < 2 ^ 64
-    reading_low_fits h = eight (width - (left - 1)) _ (omega arith) reading_low_turn.small
+  pub low_start : (bs : List ℕ) → bs ≡ part → low_over bs 0 ≡ little_at s at width
+  unfolding little_at
+  low_start bs e = ap (λ (b : List ℕ). low_over b 0) (e ∙ part_of) ∙ low_over_none (take width (drop at s))
 
-  pub reading_low_end : (x left : ℕ) → ReadingLow s at width x left → left ≤ 0 → (x ≡ little_at s at width) × (x < 256 ^ width)
-  reading_low_end x left r z =
-      let p : at + left ≡ at = omega arith in
-      let q : width - left ≡ width = omega arith in
-      (r.rest ∙ ap₂ (λ (a w : ℕ). little_at s a w) p q, rw q at r.small)
+  pub low_turn : (bs left : List ℕ) (b x : ℕ) → bs ≡ push left b → low_over bs x ≡ little_at s at width → low_over left (b + 256 * x) ≡ little_at s at width
+  low_turn bs left b x e h = sym (low_over_last left b x) ∙ rw e at h
 
--- ---- `big`: the first i bytes are read
+  pub low_fits : (bs left : List ℕ) (b x : ℕ) → bs ≡ push left b → low_over bs x ≡ little_at s at width → b + 256 * x < 2 ^ 64
+  low_fits bs left b x e h =
+      eight width (little_at s at width) (b + 256 * x) few (number_fits s (bytes_lent s bytes) at width within)
+      (omega (arith, low_over_least left (b + 256 * x), low_turn bs left b x e h))
 
-pub record ReadingHigh (s : List ℕ) (at width x i : ℕ) : Type 0 where
-  pub within : i ≤ width
-  pub read : x ≡ big_at s at i
-  pub small : x < 256 ^ i
+  pub low_end : (left : List ℕ) (x : ℕ) → length left ≡ 0 → low_over left x ≡ little_at s at width → (x ≡ little_at s at width) × (x < 256 ^ width)
+  unfolding low_over
+  low_end [] x e h = (h, rw h (number_fits s (bytes_lent s bytes) at width within))
+  low_end (b ∷ left) x e h = absurd (omega arith)
 
-module _ (s : List ℕ) (at width : ℕ) where
-  pub reading_high_start : ReadingHigh s at width 0 0
-  unfolding big_at
-  reading_high_start = let z = pow-zero 256 in record { within = omega arith; read = refl; small = omega arith }
+  pub high_start : high_over part 0 ≡ big_at s at width
+  high_start = rw part_of (high_over_none s at width within)
 
-  module _ (x i : ℕ) (r : ReadingHigh s at width x i) (more : i < width) (byte : get_or s (at + i) 0 < 256) where
-    pub reading_high_turn : ReadingHigh s at width (get_or s (at + i) 0 + 256 * x) (i + 1)
-    unfolding big_at
-    reading_high_turn =
-        let p = pow-suc 256 i in
-        let m = r.small in
-        record {
-          within = omega arith;
-          read = rw (add-one i) (ap (λ (n : ℕ). get_or s (at + i) 0 + 256 * n) r.read);
-          small = rw (add-one i) (omega arith);
-        }
+  pub high_turn : (i x : ℕ) → i < length part → high_over (drop i part) x ≡ big_at s at width
+      → high_over (drop (i + 1) part) (256 * x + get_or part i 0) ≡ big_at s at width
+  unfolding high_over
+  high_turn i x l h = rw (add-one i, add_comm (256 * x) (get_or part i 0)) (rw (drop-cons part i 0 l) at h)
 
-    pub reading_high_fits : width ≤ 8 → get_or s (at + i) 0 + 256 * x < 2 ^ 64
-    reading_high_fits h = eight (i + 1) _ (omega arith) reading_high_turn.small
+  pub high_fits : (i x : ℕ) → i < length part → high_over (drop i part) x ≡ big_at s at width → 256 * x + get_or part i 0 < 2 ^ 64
+  high_fits i x l h =
+      let y : ℕ = 256 * x + get_or part i 0 in
+      eight width (big_at s at width) y few (big_fits s at width (bytes_lent s bytes))
+      (omega (arith, high_over_least (drop (i + 1) part) y, high_turn i x l h))
 
-  pub reading_high_end : (x i : ℕ) → ReadingHigh s at width x i → width ≤ i → (x ≡ big_at s at width) × (x < 256 ^ width)
-  reading_high_end x i r l =
-      let w = r.within in
-      let e : i ≡ width = omega arith in
-      (r.read ∙ ap (big_at s at) e, rw e at r.small)
+  pub high_end : (i x : ℕ) → length part ≤ i → high_over (drop i part) x ≡ big_at s at width → (x ≡ big_at s at width) × (x < 256 ^ width)
+  unfolding high_over
+  high_end i x l h = let e : x ≡ big_at s at width = rw (drop_of_length-le part l) at h in
+      (e, rw e (big_fits s at width (bytes_lent s bytes)))
+
+-- ---- what the check finds the answers of each loop by
+
+pub ruleset low_read = (low_start, low_fits, low_end)
+
+pub ruleset high_read = (high_start, high_turn, high_fits, high_end)
+
+pub ruleset low_put = (putting_low_turn, putting_low_end)

@@ -4,16 +4,16 @@ use Prim.Native.Nat.{ℕ, ◌+◌}
 use native.Mathlib.Decide.{dec_lt}
 use native.Mathlib.Omega.{arith}
 use mathlib.Core.Path.{◌≡◌, refl}
-use mathlib.Core.Option.{Option, none, some}
 use Rattle.refusal.specs.declared.Refusal.{Refusal}
 use Rattle.refusal.specs.Number.{number_of, done}
 use Rattle.refusal.specs.Lowest.{NothingBelow, Lowest}
 use Rattle.refusal.proofs.Names.{numbers_tell}
+use Rattle.std.specs.Prelude.{None, Option, Some}
 
 -- the number of an answer that may be a refusal
 abbrev pub number_by : Option Refusal → ℕ
-number_by none = done
-number_by (some r) = number_of r
+number_by None = done
+number_by (Some r) = number_of r
 
 module _ (A : Refusal → Type 0) where
   -- ---- below a number
@@ -37,16 +37,16 @@ module _ (A : Refusal → Type 0) where
   -- ---- a right answer
 
   abbrev pub Right : Option Refusal → Type 0
-  Right none = (r : Refusal) → A r → ⊥
-  Right (some r) = A r × NothingBelow A (number_of r)
+  Right None = (r : Refusal) → A r → ⊥
+  Right (Some r) = A r × NothingBelow A (number_of r)
 
   refused_to : (o : Option Refusal) → Right o → (r : Refusal) → number_by o ≡ number_of r → A r × NothingBelow A (number_of r)
-  refused_to none h r e = absurd (omega (arith, e, numbers_tell.not_done r))
-  refused_to (some q) h r e = rw (numbers_tell.apart q r e) at h
+  refused_to None h r e = absurd (omega (arith, e, numbers_tell.not_done r))
+  refused_to (Some q) h r e = rw (numbers_tell.apart q r e) at h
 
   refused_from : (o : Option Refusal) → Right o → (r : Refusal) → A r × NothingBelow A (number_of r) → number_by o ≡ number_of r
-  refused_from none h r a = absurd (h r a.0)
-  refused_from (some q) h r a =
+  refused_from None h r a = absurd (h r a.0)
+  refused_from (Some q) h r a =
       elim (dec_lt (number_of q) (number_of r)) [
         | yes l ↦ absurd (a.1 q l h.0)
         | no l ↦ elim (dec_lt (number_of r) (number_of q)) [
@@ -56,12 +56,12 @@ module _ (A : Refusal → Type 0) where
       ]
 
   done_to : (o : Option Refusal) → Right o → number_by o ≡ done → (r : Refusal) → A r → ⊥
-  done_to none h e = h
-  done_to (some q) h e = absurd (omega (arith, e, numbers_tell.not_done q))
+  done_to None h e = h
+  done_to (Some q) h e = absurd (omega (arith, e, numbers_tell.not_done q))
 
   done_from : (o : Option Refusal) → Right o → ((r : Refusal) → A r → ⊥) → number_by o ≡ done
-  done_from none h f = refl
-  done_from (some q) h f = absurd (f q h.0)
+  done_from None h f = refl
+  done_from (Some q) h f = absurd (f q h.0)
 
   pub lowest : (o : Option Refusal) → Right o → Lowest A (number_by o)
   lowest o h = record { refused = λ r. (refused_to o h r, refused_from o h r); none_applies = (done_to o h, done_from o h) }

@@ -1,10 +1,8 @@
--- `octets::big` meets its contract: each turn keeps `ReadingHigh`, that the bytes up to here are read (proofs/Loops.antt).
-use Prim.Native.Nat.{◌-◌}
-use Rattle.octets.proofs.Loops.{ReadingHigh}
+-- `octets::big` meets its contract: the number read so far, with the bytes that are left behind it, is the whole (proofs/Loops.antt).
+use Rattle.std.proofs.Common.{◌≡◌, drop}
+use Rattle.octets.specs.Numbers.{big_at}
+use Rattle.octets.proofs.Loops.{high_over}
 use Rattle.octets.proofs.big.Given as goal
 
-abbrev pub invariant-loop-i : goal.invariant-loop-i
-invariant-loop-i l = ReadingHigh l.s l.at l.width l.x l.i
-
-abbrev pub decreases-loop-i : goal.decreases-loop-i
-decreases-loop-i l = l.width - l.i
+abbrev pub invariant-loop-byte : goal.invariant-loop-byte
+invariant-loop-byte l = high_over (drop l.byte-index l.byte-items) l.x ≡ big_at l.s l.at l.width

@@ -2,8 +2,5 @@
 use Rattle.octets.proofs.Loops.{PuttingHigh}
 use Rattle.octets.proofs.put_big.Given as goal
 
-abbrev pub invariant-loop-left : goal.invariant-loop-left
-invariant-loop-left l = PuttingHigh l.initial.to l.at l.width l.x l.to l.rest l.left
-
-abbrev pub decreases-loop-left : goal.decreases-loop-left
-decreases-loop-left l = l.left
+abbrev pub invariant-loop-i : goal.invariant-loop-i
+invariant-loop-i l = PuttingHigh l.initial.to l.at l.width l.x l.to l.rest l.i

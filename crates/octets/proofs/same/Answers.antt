@@ -1,22 +1,15 @@
-use mathlib.Core.Path.{refl, ◌∙◌}
-use native.Mathlib.Numerals.{add-one}
-use Rattle.octets.proofs.Comparing.{same_turn, same_end, lengths_differ}
-use borrow.Author.Rules.{rules}
-use native.Mathlib.Omega.{arith}
+use Rattle.std.proofs.Common.{◌∙◌}
+use Rattle.std.proofs.lemmas.Slice.Zip.{either_empty_from_Zip}
+use Rattle.octets.proofs.Comparing.{same_turn, same_end}
 use Rattle.octets.proofs.same.Goals as goal
 
-pub returns-then-a-b : goal.returns-then-a-b
-returns-then-a-b c = lengths_differ _ _ (search rules)
-
-pub loop-i-init : goal.loop-i-init
-loop-i-init c = (omega arith, refl)
-
-pub loop-i-preserved : goal.loop-i-preserved
-loop-i-preserved c =
-    let l = c.loop-i in
-    (omega arith, rw add-one (same_turn l.agree c.args.a.now c.args.b.now l.i (omega arith) (omega arith)) ∙ l.invariant.1)
+pub loop-x-preserved : goal.loop-x-preserved
+loop-x-preserved c =
+    let i = c.loop-x.invariant in
+    let t = same_turn c.loop-x.agree _ _ _ _ _ _ c.in-Some.ensures.steps.0 c.in-Some.ensures.steps.1 i.0 in
+    (t.0, t.1 ∙ i.1)
 
 pub returns : goal.returns
 returns c =
-    let l = c.loop-i in
-    same_end l.agree c.args.a.now c.args.b.now l.i (omega arith) (omega arith) ∙ l.invariant.1
+    let i = c.loop-x.invariant in
+    same_end c.loop-x.agree _ _ i.0 (either_empty_from_Zip c.loop-x.x-iterator c.next.new.self _ c.in-None.is c.next.ensures.steps) ∙ i.1

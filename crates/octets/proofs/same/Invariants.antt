@@ -1,13 +1,10 @@
 -- `octets::same` meets its contract: what was compared so far, with what is left, gives the whole answer (proofs/Comparing.antt).
-use Prim.Native.Nat.{◌≤◌, ◌-◌}
-use mathlib.Core.Path.{◌≡◌}
+use Rattle.std.proofs.Common.{◌≡◌, length}
 use mathlib.Core.Bool.{◌&&◌}
-use lib.ListN.{length, drop}
 use Rattle.octets.specs.Bytes.{same_bytes}
 use Rattle.octets.proofs.same.Given as goal
 
-abbrev pub invariant-loop-i : goal.invariant-loop-i
-invariant-loop-i l = (l.i ≤ length l.a) × ((l.agree && same_bytes (drop l.i l.a) (drop l.i l.b)) ≡ same_bytes l.a l.b)
-
-abbrev pub decreases-loop-i : goal.decreases-loop-i
-decreases-loop-i l = length l.a - l.i
+abbrev pub invariant-loop-x : goal.invariant-loop-x
+invariant-loop-x l =
+    (length l.x-iterator.a.rest.now ≡ length l.x-iterator.b.rest.now) ×
+    ((l.agree && same_bytes l.x-iterator.a.rest.now l.x-iterator.b.rest.now) ≡ same_bytes l.a l.b)
