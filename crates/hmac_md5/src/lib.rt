@@ -27,13 +27,6 @@ const OUTER: u8 = 0x5c;
 // The bits of the outer message: the key's block, and the inner digest.
 const OUTER_BITS: u32 = 640;
 
-// What HMAC gives: number 0 and the MAC, or the refusal's number and 16 zero bytes.
-#[derive(Clone, Copy)]
-pub struct Mac {
-    pub number: u8,
-    pub mac: [u8; DIGEST_SIZE],
-}
-
 // The key with zeros after it up to a block.
 fn padded_key(key: &[u8]) -> [u8; BLOCK_SIZE]
     requires { length key.now ≤ block_size }
@@ -45,14 +38,13 @@ fn padded_key(key: &[u8]) -> [u8; BLOCK_SIZE]
 }
 
 // A block, each byte by exclusive or with a mask.
+#[tactic(auto, using(std::proofs::lemmas::List::take_all, std::proofs::lemmas::List::drop_all))]
 fn masked_block(block: [u8; BLOCK_SIZE], mask: u8) -> [u8; BLOCK_SIZE]
     ensures { result ≡ map (λ b. bit_xor b mask) block }
 {
     let mut masked = block;
-    let mut i: usize = 0;
-    while i < BLOCK_SIZE {
-        masked[i] = block[i] ^ mask;
-        i += 1;
+    for byte in &mut masked {
+        *byte ^= mask;
     }
     masked
 }
@@ -68,27 +60,19 @@ fn last_block(inner: Words) -> [u32; BLOCK_WORDS]
 
 // The MAC of a message under a key; refused where the key is longer than a block or the inner digest would pass its limit. Both blocks that the key
 // makes come first, and the inner digest goes on as words: nothing is written out as bytes in between.
-pub fn hmac(key: &[u8], message: &[u8]) -> Mac
+#[tactic(auto, using(crate::proofs::Masks::hmac_key_refused, crate::proofs::Masks::hmac_text_refused))]
+pub fn hmac(key: &[u8], message: &[u8]) -> Result<[u8; DIGEST_SIZE], Refusal>
     ensures { result ≡ hmac_of key.now message.now }
 {
     if KEY_MOST < key.len() {
-        return Mac {
-            number: refusal::number(Refusal::TooLong),
-            mac: [0u8; DIGEST_SIZE],
-        };
+        return Err(Refusal::TooLong);
     }
     if TEXT_MOST < message.len() {
-        return Mac {
-            number: refusal::number(Refusal::TooLong),
-            mac: [0u8; DIGEST_SIZE],
-        };
+        return Err(Refusal::TooLong);
     }
     let padded = padded_key(key);
     let inner = md5_digest::words_after_first(masked_block(padded, INNER));
     let outer = md5_digest::words_after_first(masked_block(padded, OUTER));
     let last = last_block(md5_digest::words_after_rest(inner, message));
-    Mac {
-        number: 0,
-        mac: md5_digest::bytes_of(md5_block::block(outer, last)),
-    }
+    Ok(md5_digest::bytes_of(md5_block::block(outer, last)))
 }

@@ -1,5 +1,6 @@
 // RFC 1321, section 3.4: a block of sixteen words through the four rounds, written out: every step has its word, its constant and its rotation in
-// it, and nothing is looked up by the step's number.
+// it, and nothing is looked up by the step's number. One step or round for all four, by tables, takes almost twice the time
+// (timed_blocks; docs/ARCHITECTURE.md, 'Speed'); what the four steps share is `sum_of` and `turned`, and they differ in where b comes in.
 //
 // A step needs the word b that the step before it made, and the machine waits for nothing else: what does not hang on b is summed up first, F takes
 // b once, and G, whose two parts share no bit, is added in these parts. proofs/Forms.antt has the laws about bits that make this RFC 1321's step.
@@ -16,7 +17,7 @@ fn turned(w: Words, sum: u32, s: u32) -> Words
 {
     Words {
         a: w.d,
-        b: std::num::wrapping_add_u32(w.b, rotate(sum, s)),
+        b: w.b.wrapping_add(rotate(sum, s)),
         c: w.b,
         d: w.c,
     }
@@ -27,11 +28,7 @@ fn first_step(w: Words, word: u32, constant: u32, s: u32) -> Words
     ensures { result ≡ step_with 0 word constant (s % 32) w }
 {
     let sum = sum_of(w.a, word, constant);
-    turned(
-        w,
-        std::num::wrapping_add_u32(sum, w.d ^ (w.b & (w.c ^ w.d))),
-        s,
-    )
+    turned(w, sum.wrapping_add(w.d ^ (w.b & (w.c ^ w.d))), s)
 }
 
 // A step of the second round: G takes b's bit where d has a 1, and else c's. The part without b comes first.
@@ -39,24 +36,26 @@ fn second_step(w: Words, word: u32, constant: u32, s: u32) -> Words
     ensures { result ≡ step_with 1 word constant (s % 32) w }
 {
     let sum = sum_of(w.a, word, constant);
-    let part = std::num::wrapping_add_u32(sum, w.c & !w.d);
-    turned(w, std::num::wrapping_add_u32(part, w.b & w.d), s)
+    let part = sum.wrapping_add(w.c & !w.d);
+    turned(w, part.wrapping_add(w.b & w.d), s)
 }
 
 // A step of the third round, with H.
+#[tactic(auto, using(crate::proofs::Steps::step_made, crate::proofs::Forms::in_order_lem), unfolding(crate::specs::Word::auxiliary))]
 fn third_step(w: Words, word: u32, constant: u32, s: u32) -> Words
     ensures { result ≡ step_with 2 word constant (s % 32) w }
 {
     let sum = sum_of(w.a, word, constant);
-    turned(w, std::num::wrapping_add_u32(sum, w.b ^ w.c ^ w.d), s)
+    turned(w, sum.wrapping_add(w.b ^ w.c ^ w.d), s)
 }
 
 // A step of the fourth round, with I.
+#[tactic(auto, using(crate::proofs::Steps::step_made, crate::proofs::Forms::in_order_lem), unfolding(crate::specs::Word::auxiliary))]
 fn fourth_step(w: Words, word: u32, constant: u32, s: u32) -> Words
     ensures { result ≡ step_with 3 word constant (s % 32) w }
 {
     let sum = sum_of(w.a, word, constant);
-    turned(w, std::num::wrapping_add_u32(sum, w.c ^ (w.b | !w.d)), s)
+    turned(w, sum.wrapping_add(w.c ^ (w.b | !w.d)), s)
 }
 
 fn first_round(w: Words, x: [u32; BLOCK_WORDS]) -> Words
@@ -144,6 +143,7 @@ fn fourth_round(w: Words, x: [u32; BLOCK_WORDS]) -> Words
 }
 
 // One block through the four rounds, added to the words before it.
+#[tactic(auto, unfolding(crate::specs::Block::compress))]
 pub fn block(w: Words, x: [u32; BLOCK_WORDS]) -> Words
     ensures { result ≡ compress w x }
 {
@@ -152,9 +152,9 @@ pub fn block(w: Words, x: [u32; BLOCK_WORDS]) -> Words
     let w3 = third_round(w2, x);
     let w4 = fourth_round(w3, x);
     Words {
-        a: std::num::wrapping_add_u32(w.a, w4.a),
-        b: std::num::wrapping_add_u32(w.b, w4.b),
-        c: std::num::wrapping_add_u32(w.c, w4.c),
-        d: std::num::wrapping_add_u32(w.d, w4.d),
+        a: w.a.wrapping_add(w4.a),
+        b: w.b.wrapping_add(w4.b),
+        c: w.c.wrapping_add(w4.c),
+        d: w.d.wrapping_add(w4.d),
     }
 }

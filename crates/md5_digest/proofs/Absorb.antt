@@ -7,14 +7,14 @@ use lib.ListN.{length, take, drop, length-append, take-append-drop, drop_of_leng
 use lib.Seq.{length-take-le, drop-append-le, take_all, drop-drop}
 use Rattle.octets.specs.Bytes.{written, zeros, filled}
 use Rattle.octets.proofs.Written.{length_written, take_written, written_last}
-use Rattle.octets.proofs.Filled.{filled_parts, length_filled, take_filled, drop_filled, cleared_from}
+use Rattle.octets.proofs.Filled.{filled_parts, length_filled, take_filled, drop_filled, cleared_from, written_zeros}
 use Rattle.md5_block.specs.declared.Words.{Words}
 use Rattle.md5_digest.specs.declared.Digest.{Digest}
 use Rattle.md5_block.specs.Block.{compress}
 use Rattle.md5_digest.specs.Block.{block_size, load, blocks, whole}
 use Rattle.md5_digest.specs.Message.{start}
 use Rattle.md5_digest.specs.Entries.{fresh, held, settle, absorb}
-use Rattle.md5_digest.proofs.Whole.{blocks_few, blocks_one, rest, length_rest, count_append, whole_append}
+use Rattle.md5_digest.proofs.Whole.{blocks_few, blocks_one, rest, length_rest, part_rest, count_append, whole_append}
 
 -- ---- bytes b that are to be digested after the words w, of a total of n
 
@@ -137,3 +137,14 @@ tail_full tail s used gap l g h =
     let k = length-take-le gap s h in
     let n = length_written used (take gap s) tail (omega arith) in
     take_all block_size (written used (take gap s) tail) (omega arith) ∙ written_last used (take gap s) tail (omega arith)
+
+-- ---- as the code comes to them
+
+-- what is left behind the whole blocks of s, written over a tail of zeros
+pub settled_lem : (s tail : List ℕ) (w words : Words) (total : ℕ) → let from = length s - length s % block_size in
+    words ≡ whole s w → tail ≡ written 0 (take (length s - from) (drop from s)) (zeros block_size)
+    → ◌≡◌ {A = Digest} (record { words = words; tail = tail; total = total }) (settle s w total)
+unfolding settle
+settled_lem s tail w words total e f =
+    let kept = f ∙ ap (λ (r : List ℕ). written 0 r (zeros block_size)) (part_rest s) ∙ written_zeros block_size (rest s) in
+    λ i. record { words = e i; tail = kept i; total = total }

@@ -6,45 +6,45 @@ use native.Mathlib.Omega.{arith}
 use borrow.Author.Tests.{le-leb, lt-leb}
 use lib.ListN.{length, take, set, length-append, length-replicate}
 use lib.Seq.{take-append-add, set_at}
+use Rattle.std.specs.Prelude.{Ok, Err}
 use Rattle.octets.specs.Bytes.{written, zeros}
 use Rattle.octets.specs.Numbers.{le}
 use Rattle.octets.proofs.Written.{take_written}
 use Rattle.octets.proofs.Filled.{take_zeros, filled_parts, written_zeros}
 use Rattle.octets.proofs.LowFirst.{le_length}
-use Rattle.refusal.specs.Number.{number_of, done}
 use Rattle.refusal.specs.declared.Refusal.TheVariants.{TooLong}
 use Rattle.md5_block.specs.declared.Words.{Words}
 use Rattle.md5_digest.specs.declared.Digest.{Digest}
 use Rattle.md5_block.specs.Block.{compress}
 use Rattle.md5_digest.specs.Block.{block_size, load, blocks, whole}
 use Rattle.md5_digest.specs.Message.{start, padding, padded, output, md5}
-use Rattle.md5_digest.specs.Entries.{digest_most, digest_size, no_digest, fresh, held, absorb, feed_of, finish_of, md5_of, after_rest}
+use Rattle.md5_digest.specs.Entries.{digest_most, digest_size, fresh, held, absorb, feed_of, finish_of, md5_of, after_rest}
 use Rattle.md5_digest.proofs.Whole.{blocks_one, whole_front}
 use Rattle.md5_digest.proofs.Absorb.{fresh_long, fresh_total, absorb_fresh, absorb_words, absorb_total, absorb_append}
 
 -- ---- the entries' answers, by the limit
 
-pub feed_taken : (d : Digest) (s : List ℕ) → d.total + length s ≤ digest_most → feed_of d s ≡ record { number = done; state = absorb d s }
+pub feed_taken : (d : Digest) (s : List ℕ) → d.total + length s ≤ digest_most → feed_of d s ≡ Ok (absorb d s)
 unfolding feed_of
 feed_taken d s h = rw (le-leb (d.total + length s) digest_most h)
 
-pub feed_refused : (d : Digest) (s : List ℕ) → digest_most < d.total + length s → feed_of d s ≡ record { number = number_of TooLong; state = d }
+pub feed_refused : (d : Digest) (s : List ℕ) → digest_most < d.total + length s → feed_of d s ≡ Err TooLong
 unfolding feed_of
 feed_refused d s h = rw (lt-leb (d.total + length s) digest_most h)
 
-pub finish_taken : (d : Digest) → d.total ≤ digest_most → finish_of d ≡ record { number = done; digest = output (absorb d (padding d.total)).words }
+pub finish_taken : (d : Digest) → d.total ≤ digest_most → finish_of d ≡ Ok (output (absorb d (padding d.total)).words)
 unfolding finish_of
 finish_taken d h = rw (le-leb d.total digest_most h)
 
-pub finish_refused : (d : Digest) → digest_most < d.total → finish_of d ≡ record { number = number_of TooLong; digest = no_digest }
+pub finish_refused : (d : Digest) → digest_most < d.total → finish_of d ≡ Err TooLong
 unfolding finish_of
 finish_refused d h = rw (lt-leb d.total digest_most h)
 
-pub md5_taken : (s : List ℕ) → length s ≤ digest_most → md5_of s ≡ record { number = done; digest = md5 s }
+pub md5_taken : (s : List ℕ) → length s ≤ digest_most → md5_of s ≡ Ok (md5 s)
 unfolding md5_of
 md5_taken s h = rw (le-leb (length s) digest_most h)
 
-pub md5_refused : (s : List ℕ) → digest_most < length s → md5_of s ≡ record { number = number_of TooLong; digest = no_digest }
+pub md5_refused : (s : List ℕ) → digest_most < length s → md5_of s ≡ Err TooLong
 unfolding md5_of
 md5_refused s h = rw (lt-leb (length s) digest_most h)
 
@@ -61,7 +61,7 @@ unfolding padded padding
 padded_long s = simp (length-append, length-replicate, le_length) (omega arith)
 
 -- a fresh state that has taken s ends in the digest of s
-pub md5_of_fresh : (s : List ℕ) → length s ≤ digest_most → finish_of (absorb fresh s) ≡ record { number = done; digest = md5 s }
+pub md5_of_fresh : (s : List ℕ) → length s ≤ digest_most → finish_of (absorb fresh s) ≡ Ok (md5 s)
 unfolding md5 padded
 md5_of_fresh s h =
     let e : (absorb fresh s).total ≡ length s = omega (arith, absorb_total fresh s, fresh_total) in
@@ -71,13 +71,13 @@ md5_of_fresh s h =
 
 -- the words after all of s and its padding
 pub md5_all : (s : List ℕ) (w : Words) → length s ≤ digest_most → w ≡ whole (s ++ padding (length s)) start
-    → record { number = done; digest = output w } ≡ md5_of s
+    → Ok (output w) ≡ md5_of s
 unfolding md5 padded
 md5_all s w h e = rw e (sym (md5_taken s h))
 
 -- the words after the bytes held and the padding
 pub finish_all : (d : Digest) (w : Words) → d.total ≤ digest_most → w ≡ whole (held d ++ padding d.total) d.words
-    → record { number = done; digest = output w } ≡ finish_of d
+    → Ok (output w) ≡ finish_of d
 finish_all d w h e = rw (e, ← (absorb_words d (padding d.total))) (sym (finish_taken d h))
 
 -- a first block, and the rest of the message

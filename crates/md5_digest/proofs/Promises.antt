@@ -5,8 +5,10 @@ use Prim.Native.Nat.{ℕ, ◌+◌, ◌≤◌}
 use native.Mathlib.Decide.{dec_le}
 use native.Mathlib.Omega.{arith}
 use lib.ListN.{length, length-append}
+use Rattle.std.specs.Prelude.{Result}
+use Rattle.refusal.specs.declared.Refusal.{Refusal}
+use Rattle.refusal.specs.Number.{result_number, given_or}
 use Rattle.md5_digest.specs.declared.Digest.{Digest}
-use Rattle.md5_digest.specs.declared.Fed.{Fed}
 use Rattle.md5_digest.specs.Block.{block_size}
 use Rattle.md5_digest.specs.Entries.{digest_most, fresh, absorb, feed_of, finish_of}
 use Rattle.md5_digest.specs.Promises.{fed_all, joined, AnyCutting, PiecesTaken, TailZero, RefusedKept, PaddedSize}
@@ -22,7 +24,7 @@ fed_all_lem [] d s l h = ap (absorb d) (sym (append-nil s))
 fed_all_lem (p ∷ ps) d s l h =
     let whole : s ++ p ++ joined ps ≡ s ++ (p ++ joined ps) = append_assoc s p (joined ps) in
     let n : length (s ++ (p ++ joined ps)) ≡ length s + (length p + length (joined ps)) = simp length-append in
-    ap (λ (f : Fed). fed_all f.state ps) (feed_taken (absorb d s) p (omega (arith, absorb_total d s)))
+    ap (λ (f : Result Digest Refusal). fed_all (given_or (absorb d s) f) ps) (feed_taken (absorb d s) p (omega (arith, absorb_total d s)))
     ∙ ap (λ (e : Digest). fed_all e ps) (absorb_append d l s p)
     ∙ fed_all_lem ps d (s ++ p) l (omega (arith, ap length whole))
     ∙ ap (absorb d) whole
@@ -36,8 +38,8 @@ any_cutting pieces h = ap finish_of (from_fresh pieces h) ∙ md5_of_fresh (join
 pub pieces_taken : PiecesTaken
 pieces_taken pieces piece h =
     let s = joined pieces in
-    ap (λ (d : Digest). (feed_of d piece).number) (from_fresh pieces (omega arith))
-    ∙ ap (λ (f : Fed). f.number) (feed_taken (absorb fresh s) piece (omega (arith, absorb_total fresh s, fresh_total)))
+    ap (λ (d : Digest). result_number (feed_of d piece)) (from_fresh pieces (omega arith))
+    ∙ ap result_number (feed_taken (absorb fresh s) piece (omega (arith, absorb_total fresh s, fresh_total)))
 
 -- ---- any state
 
@@ -45,14 +47,14 @@ pub tail_zero : TailZero
 tail_zero d piece l h =
     elim (dec_le (d.total + length piece) digest_most) [
       | yes k ↦ rw (feed_taken d piece k, absorb_total d piece) (tail_absorbed d l piece)
-      | no k ↦ absurd (omega (arith, sym h ∙ ap (λ (f : Fed). f.number) (feed_refused d piece (omega arith))))
+      | no k ↦ absurd (omega (arith, sym h ∙ ap result_number (feed_refused d piece (omega arith))))
     ]
 
 pub refused_kept : RefusedKept
 refused_kept d piece h =
     elim (dec_le (d.total + length piece) digest_most) [
-      | yes k ↦ absurd (h (ap (λ (f : Fed). f.number) (feed_taken d piece k)))
-      | no k ↦ ap (λ (f : Fed). f.state) (feed_refused d piece (omega arith))
+      | yes k ↦ absurd (h (ap result_number (feed_taken d piece k)))
+      | no k ↦ let e = feed_refused d piece (omega arith) in (e, ap (given_or d) e)
     ]
 
 pub padded_size : PaddedSize

@@ -77,3 +77,13 @@ pub whole_front : (a t : List ℕ) (w : Words) → length a ≡ block_size → w
 whole_front a t w l =
     blocks_turn (a ++ t) w (omega (arith, length-append a t))
     ∙ ap₂ (λ (x y : List ℕ). whole x (compress w (load y))) (drop_at a t block_size l) (take_at a t block_size l)
+
+-- ---- as the code comes to them
+
+-- a block alone is all of what it is taken from
+pub load_block : (s : List ℕ) → length s ≡ block_size → load (take block_size s) ≡ load s
+load_block s l = ap load (take_all block_size s (omega arith))
+
+-- a block a in front of t, taken by its words
+pub whole_turn : (s a t : List ℕ) (v u : Words) → s ≡ a ++ t → length a ≡ block_size → u ≡ compress v (load (take block_size a)) → whole t u ≡ whole s v
+whole_turn s a t v u e l h = rw (h, load_block a l, e) (sym (whole_front a t v l))

@@ -1,13 +1,11 @@
--- What the entries answer: the digest in progress, the limit on its total and the numbers (docs/RULES.md, 'Digests').
+-- What the entries answer: the digest in progress, the limit on its total and the refusals (docs/RULES.md, 'Digests').
 -- Every state has an answer, also one that no run of feeds makes.
-use Rattle.std.specs.Prelude.{ℕ, ◌+◌, ◌*◌, ◌/◌, ◌%◌, cond, List, ◌++◌, leb, length, take, drop}
+use Rattle.std.specs.Prelude.{ℕ, ◌+◌, ◌*◌, ◌/◌, ◌%◌, cond, List, ◌++◌, leb, length, take, drop, Result, Ok, Err}
 use Rattle.octets.specs.Bytes.{zeros, filled}
-use Rattle.refusal.specs.Number.{number_of, done}
+use Rattle.refusal.specs.declared.Refusal.{Refusal}
 use Rattle.refusal.specs.declared.Refusal.TheVariants.{TooLong}
 use Rattle.md5_block.specs.declared.Words.{Words}
 use Rattle.md5_digest.specs.declared.Digest.{Digest}
-use Rattle.md5_digest.specs.declared.Fed.{Fed}
-use Rattle.md5_digest.specs.declared.Finished.{Finished}
 use Rattle.md5_digest.specs.Block.{block_size, blocks, whole}
 use Rattle.md5_digest.specs.Message.{start, padding, output, md5}
 
@@ -40,28 +38,28 @@ absorb d s = settle (held d ++ s) d.words (d.total + length s)
 abbrev pub digest_size : ℕ
 digest_size = 16
 
--- zeros, which go with a refusal
+-- zeros, which C is given in the place of a digest that is refused
 abbrev pub no_digest : List ℕ
 no_digest = zeros digest_size
 
-unfoldable pub feed_of : Digest → List ℕ → Fed
+unfoldable pub feed_of : Digest → List ℕ → Result Digest Refusal
 feed_of d s =
     cond (leb (d.total + length s) digest_most)
-    (record { number = done; state = absorb d s })
-    (record { number = number_of TooLong; state = d })
+    (Ok (absorb d s))
+    (Err TooLong)
 
-unfoldable pub finish_of : Digest → Finished
+unfoldable pub finish_of : Digest → Result (List ℕ) Refusal
 finish_of d =
     cond (leb d.total digest_most)
-    (record { number = done; digest = output (absorb d (padding d.total)).words })
-    (record { number = number_of TooLong; digest = no_digest })
+    (Ok (output (absorb d (padding d.total)).words))
+    (Err TooLong)
 
 -- the digest of a whole message
-unfoldable pub md5_of : List ℕ → Finished
+unfoldable pub md5_of : List ℕ → Result (List ℕ) Refusal
 md5_of s =
     cond (leb (length s) digest_most)
-    (record { number = done; digest = md5 s })
-    (record { number = number_of TooLong; digest = no_digest })
+    (Ok (md5 s))
+    (Err TooLong)
 
 -- the words after the rest of a message whose first block led to w, and after its padding; past the limit w itself
 unfoldable pub after_rest : Words → List ℕ → Words

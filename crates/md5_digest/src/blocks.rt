@@ -27,23 +27,20 @@ pub(crate) fn words_of(s: &[u8], at: usize) -> [u32; BLOCK_WORDS]
     ensures { result ≡ load (take block_size (drop at s.now)) }
 {
     let mut x = [0u32; BLOCK_WORDS];
-    let mut i: usize = 0;
-    while i < BLOCK_WORDS {
+    for i in 0..BLOCK_WORDS {
         x[i] = word(s, at + 4 * i);
-        i += 1;
     }
     x
 }
 
 // The words after every whole block of s.
+#[tactic(auto, using(crate::proofs::Whole::blocks_few, crate::proofs::Whole::whole_turn))]
 pub(crate) fn whole_blocks(w: Words, s: &[u8]) -> Words
     ensures { result ≡ whole s.now w }
 {
     let mut v = w;
-    let mut at: usize = 0;
-    while BLOCK_SIZE <= s.len() - at {
-        v = block(v, words_of(s, at));
-        at += BLOCK_SIZE;
+    for bytes in s.chunks_exact(BLOCK_SIZE) {
+        v = block(v, words_of(bytes, 0));
     }
     v
 }
@@ -64,6 +61,7 @@ pub(crate) fn ended(w: Words, rest: &[u8], total: usize) -> Words
 }
 
 // The words after all of s, which ends a message of `total` bytes, and after its padding.
+#[tactic(auto, using(crate::proofs::Whole::part_rest, crate::proofs::Whole::whole_append))]
 pub(crate) fn all_blocks(w: Words, s: &[u8], total: usize) -> Words
     requires { (length s.now % block_size ≡ total % block_size) × (total ≤ digest_most) }
     ensures { result ≡ whole (s.now ++ padding total) w }

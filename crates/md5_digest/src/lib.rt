@@ -7,12 +7,10 @@ mod blocks;
 mod pieces;
 
 ghost use Rattle.std.specs.Prelude.{◌≡◌};
-ghost use Rattle.refusal.specs.Number.{number_of};
-ghost use Rattle.refusal.specs.declared.Refusal.TheVariants.{TooLong};
 ghost use Rattle.md5_block.specs.Block.{compress};
 ghost use Rattle.md5_digest.specs.Block.{load};
 ghost use Rattle.md5_digest.specs.Message.{start};
-ghost use Rattle.md5_digest.specs.Entries.{no_digest, fresh, feed_of, finish_of, md5_of, after_rest};
+ghost use Rattle.md5_digest.specs.Entries.{fresh, feed_of, finish_of, md5_of, after_rest};
 
 use crate::blocks::{all_blocks, ended, words_of};
 use crate::pieces::absorbed;
@@ -28,26 +26,13 @@ pub const BLOCK_SIZE: usize = 64;
 
 pub const DIGEST_SIZE: usize = 16;
 
-// A digest in progress. Of the tail the first total % BLOCK_SIZE bytes count; the rest are 0 after each piece taken.
-#[derive(Clone, Copy)]
+// A digest in progress. Of the tail the first total % BLOCK_SIZE bytes count; the rest are 0 after each piece taken. An array and no `Vec`: the state goes by
+// value in fixed memory, as the client named it (docs/ARCHITECTURE.md, 'Where each form stands').
+#[derive(Clone, Copy, Debug, PartialEq, Eq)]
 pub struct Digest {
     pub words: Words,
     pub tail: [u8; BLOCK_SIZE],
     pub total: usize,
-}
-
-// What feeding gives: number 0 and the next state, or the refusal's number and the state as it was given.
-#[derive(Clone, Copy)]
-pub struct Fed {
-    pub number: u8,
-    pub state: Digest,
-}
-
-// What finishing gives: number 0 and the digest, or the refusal's number and 16 zero bytes.
-#[derive(Clone, Copy)]
-pub struct Finished {
-    pub number: u8,
-    pub digest: [u8; DIGEST_SIZE],
 }
 
 // RFC 1321, section 3.3: the words before the first block.
@@ -62,18 +47,9 @@ fn start_words() -> Words
     }
 }
 
-// What finishing gives past the limit.
-fn refused() -> Finished
-    ensures { result ≡ record { number = number_of TooLong; digest = no_digest } }
-{
-    Finished {
-        number: refusal::number(Refusal::TooLong),
-        digest: [0u8; DIGEST_SIZE],
-    }
-}
-
 impl Digest {
     // A fresh state.
+    #[tactic(auto, unfolding(crate::specs::Entries::fresh))]
     pub fn begin() -> Digest
         ensures { result ≡ fresh }
     {
@@ -85,48 +61,38 @@ impl Digest {
     }
 
     // The state with a piece more, which may be empty; refused where the total would pass its limit.
-    pub fn feed(self, piece: &[u8]) -> Fed
+    #[tactic(auto, using(crate::proofs::Answers::feed_taken, crate::proofs::Answers::feed_refused))]
+    pub fn feed(self, piece: &[u8]) -> Result<Digest, Refusal>
         ensures { result ≡ feed_of self piece.now }
     {
         let total = self.total;
         if DIGEST_MOST < total {
-            return Fed {
-                number: refusal::number(Refusal::TooLong),
-                state: self,
-            };
+            return Err(Refusal::TooLong);
         }
         if DIGEST_MOST - total < piece.len() {
-            return Fed {
-                number: refusal::number(Refusal::TooLong),
-                state: self,
-            };
+            return Err(Refusal::TooLong);
         }
-        let next = absorbed(self, piece);
-        Fed {
-            number: 0,
-            state: next,
-        }
+        Ok(absorbed(self, piece))
     }
 
     // The digest of what the state has taken; refused where its total is past the limit.
-    pub fn finish(self) -> Finished
+    #[tactic(auto, using(crate::proofs::Answers::finish_all, crate::proofs::Answers::finish_refused))]
+    pub fn finish(self) -> Result<[u8; DIGEST_SIZE], Refusal>
         ensures { result ≡ finish_of self }
     {
         let total = self.total;
         if DIGEST_MOST < total {
-            return refused();
+            return Err(Refusal::TooLong);
         }
         let tail = self.tail;
         let used = total % BLOCK_SIZE;
         let last = ended(self.words, &tail[..used], total);
-        Finished {
-            number: 0,
-            digest: bytes_of(last),
-        }
+        Ok(bytes_of(last))
     }
 }
 
 // The words after a message's first block.
+#[tactic(auto, using(crate::proofs::Whole::load_block))]
 pub fn words_after_first(first: [u8; BLOCK_SIZE]) -> Words
     ensures { result ≡ compress start (load first) }
 {
@@ -134,6 +100,7 @@ pub fn words_after_first(first: [u8; BLOCK_SIZE]) -> Words
 }
 
 // The words after the rest of a message whose first block led to w, and after its padding. Past the limit, w as it is given.
+#[tactic(auto, using(crate::proofs::Answers::after_rest_lem, crate::proofs::Answers::after_none))]
 pub fn words_after_rest(w: Words, rest: &[u8]) -> Words
     ensures { result ≡ after_rest w rest.now }
 {
@@ -144,15 +111,13 @@ pub fn words_after_rest(w: Words, rest: &[u8]) -> Words
 }
 
 // The digest of a whole message; refused where it is longer than the limit.
-pub fn md5(message: &[u8]) -> Finished
+#[tactic(auto, using(crate::proofs::Answers::md5_all, crate::proofs::Answers::md5_refused))]
+pub fn md5(message: &[u8]) -> Result<[u8; DIGEST_SIZE], Refusal>
     ensures { result ≡ md5_of message.now }
 {
     if DIGEST_MOST < message.len() {
-        return refused();
+        return Err(Refusal::TooLong);
     }
     let last = all_blocks(start_words(), message, message.len());
-    Finished {
-        number: 0,
-        digest: bytes_of(last),
-    }
+    Ok(bytes_of(last))
 }

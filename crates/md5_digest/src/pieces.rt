@@ -9,6 +9,7 @@ use crate::{BLOCK_SIZE, DIGEST_SIZE, Digest};
 use md5_block::{Words, block};
 
 // The state after the words w and the bytes of s: whole blocks go through the block function, and what is left stays in the tail.
+#[tactic(auto, using(crate::proofs::Absorb::settled_lem))]
 fn settled(w: Words, s: &[u8], total: usize) -> Digest
     ensures { result ≡ settle s.now w total }
 {
@@ -16,15 +17,12 @@ fn settled(w: Words, s: &[u8], total: usize) -> Digest
     let from = s.len() - s.len() % BLOCK_SIZE;
     let mut tail = [0u8; BLOCK_SIZE];
     octets::copy(&s[from..], &mut tail, 0);
-    Digest {
-        words: words,
-        tail: tail,
-        total: total,
-    }
+    Digest { words, tail, total }
 }
 
 // The state with a piece more: the first bytes fill the tail, the others are taken straight from the piece. The bound is far above what the
 // entries ask for, and keeps every sum from wrapping.
+#[tactic(auto, using(crate::proofs::Absorb::absorb_short, crate::proofs::Absorb::tail_short))]
 pub(crate) fn absorbed(d: Digest, piece: &[u8]) -> Digest
     requires { d.total + length piece.now ≤ 2 * digest_most }
     ensures { result ≡ absorb d piece.now }
@@ -37,18 +35,14 @@ pub(crate) fn absorbed(d: Digest, piece: &[u8]) -> Digest
     if piece.len() < gap {
         octets::copy(piece, &mut tail, used);
         octets::clear(&mut tail, used + piece.len(), gap - piece.len());
-        return Digest {
-            words: words,
-            tail: tail,
-            total: total,
-        };
+        return Digest { words, tail, total };
     }
     octets::copy(&piece[..gap], &mut tail, used);
     let first = block(words, words_of(&tail, 0));
     settled(first, &piece[gap..], total)
 }
 
-// RFC 1321, section 3.5: the four words' bytes, lowest first.
+// RFC 1321, section 3.5: the four words' bytes, lowest first. By `put_little`, whose law the digest's definition is written in, and not by `to_le_bytes`.
 pub fn bytes_of(w: Words) -> [u8; DIGEST_SIZE]
     ensures { result ≡ output w }
 {

@@ -7,38 +7,18 @@ mod table;
 
 ghost use Rattle.std.specs.Prelude.{◌≡◌};
 ghost use Rattle.md5_block.specs.Block.{compress};
-ghost use Rattle.timed_blocks.specs.Lent.{words_of, four_of};
+ghost use Rattle.md5_block.specs.Lent.{words_of, four_of};
 
 use crate::table::by_table;
 use md5_block::{BLOCK_WORDS, Words};
 
-// The words of four lent ones.
-fn words_of(words: &[u32; 4]) -> Words
-    ensures { result ≡ words_of words.now }
-{
-    Words {
-        a: words[0],
-        b: words[1],
-        c: words[2],
-        d: words[3],
-    }
-}
-
-// The four words as they are lent.
-fn four_of(w: Words) -> [u32; 4]
-    ensures { result ≡ four_of w }
-{
-    [w.a, w.b, w.c, w.d]
-}
-
-// The words after a block, by md5_block's block.
+// The words after a block, by md5_block's block. C has an entry for each of the two works that are compared.
 #[unsafe(no_mangle)]
 pub extern "C" fn block_written_out(words: &mut [u32; 4], block: &[u32; BLOCK_WORDS])
     ensures { words.new ≡ four_of (compress (words_of words.old) block.now) }
 {
-    let x = *block;
-    let w = md5_block::block(words_of(words), x);
-    *words = four_of(w);
+    let w = md5_block::block(Words::from(*words), *block);
+    *words = <[u32; 4]>::from(w);
 }
 
 // The words after a block, by the tables.
@@ -46,7 +26,6 @@ pub extern "C" fn block_written_out(words: &mut [u32; 4], block: &[u32; BLOCK_WO
 pub extern "C" fn block_by_table(words: &mut [u32; 4], block: &[u32; BLOCK_WORDS])
     ensures { words.new ≡ four_of (compress (words_of words.old) block.now) }
 {
-    let x = *block;
-    let w = by_table(words_of(words), x);
-    *words = four_of(w);
+    let w = by_table(Words::from(*words), *block);
+    *words = <[u32; 4]>::from(w);
 }

@@ -21,34 +21,30 @@ const ADDITIVE: [u32; 64] = [
 // The sixteen rotations, four to a round.
 const ROTATIONS: [u32; 16] = [7, 12, 17, 22, 5, 9, 14, 20, 4, 11, 16, 23, 6, 10, 15, 21];
 
-// The auxiliary functions F, G, H and I, by the round.
+// The auxiliary functions F, G, H and I, by the round's number, as the tables are read by the step's (docs/ARCHITECTURE.md, 'Where each form stands').
+#[tactic(auto, unfolding(md5_block::specs::Word::auxiliary))]
 fn auxiliary_of(r: usize, x: u32, y: u32, z: u32) -> u32
     ensures { result ≡ auxiliary r x y z }
 {
-    if r == 0 {
-        (x & y) | (!x & z)
-    } else if r == 1 {
-        (x & z) | (y & !z)
-    } else if r == 2 {
-        x ^ y ^ z
-    } else {
-        y ^ (x | !z)
+    match r {
+        0 => (x & y) | (!x & z),
+        1 => (x & z) | (y & !z),
+        2 => x ^ y ^ z,
+        _ => y ^ (x | !z),
     }
 }
 
 // The word of the block that step i of round r takes.
+#[tactic(auto, unfolding(md5_block::specs::Word::word_no))]
 fn word_no(r: usize, i: usize) -> usize
     requires { i < block_words }
     ensures { (result ≡ word_no r i) × (result < block_words) }
 {
-    if r == 0 {
-        i
-    } else if r == 1 {
-        (1 + 5 * i) % BLOCK_WORDS
-    } else if r == 2 {
-        (5 + 3 * i) % BLOCK_WORDS
-    } else {
-        7 * i % BLOCK_WORDS
+    match r {
+        0 => i,
+        1 => (1 + 5 * i) % BLOCK_WORDS,
+        2 => (5 + 3 * i) % BLOCK_WORDS,
+        _ => 7 * i % BLOCK_WORDS,
     }
 }
 
@@ -57,13 +53,14 @@ fn step(w: Words, r: usize, word: u32, constant: u32, s: u32) -> Words
     ensures { result ≡ step_with r word constant (s % 32) w }
 {
     let f = auxiliary_of(r, w.b, w.c, w.d);
-    let s1 = std::num::wrapping_add_u32(w.a, f);
-    let s2 = std::num::wrapping_add_u32(s1, word);
-    let s3 = std::num::wrapping_add_u32(s2, constant);
-    let b = std::num::wrapping_add_u32(w.b, rotate(s3, s));
+    let sum = w
+        .a
+        .wrapping_add(f)
+        .wrapping_add(word)
+        .wrapping_add(constant);
     Words {
         a: w.d,
-        b: b,
+        b: w.b.wrapping_add(rotate(sum, s)),
         c: w.b,
         d: w.c,
     }
@@ -77,8 +74,7 @@ fn one_round(w: Words, x: [u32; BLOCK_WORDS], r: usize) -> Words
     let additive = ADDITIVE;
     let rotations = ROTATIONS;
     let mut v = w;
-    let mut i: usize = 0;
-    while i < BLOCK_WORDS {
+    for i in 0..BLOCK_WORDS {
         let k = word_no(r, i);
         v = step(
             v,
@@ -87,12 +83,11 @@ fn one_round(w: Words, x: [u32; BLOCK_WORDS], r: usize) -> Words
             additive[BLOCK_WORDS * r + i],
             rotations[4 * r + i % 4],
         );
-        i += 1;
     }
     v
 }
 
-// One block through the four rounds, added to the words before it.
+// One block through the four rounds, added to the words before it. The sums stand here again: what is compared shares no step with md5_block's block.
 pub(crate) fn by_table(w: Words, x: [u32; BLOCK_WORDS]) -> Words
     ensures { result ≡ compress w x }
 {
@@ -101,9 +96,9 @@ pub(crate) fn by_table(w: Words, x: [u32; BLOCK_WORDS]) -> Words
     let w2 = one_round(w1, x, 2);
     let w3 = one_round(w2, x, 3);
     Words {
-        a: std::num::wrapping_add_u32(w.a, w3.a),
-        b: std::num::wrapping_add_u32(w.b, w3.b),
-        c: std::num::wrapping_add_u32(w.c, w3.c),
-        d: std::num::wrapping_add_u32(w.d, w3.d),
+        a: w.a.wrapping_add(w3.a),
+        b: w.b.wrapping_add(w3.b),
+        c: w.c.wrapping_add(w3.c),
+        d: w.d.wrapping_add(w3.d),
     }
 }

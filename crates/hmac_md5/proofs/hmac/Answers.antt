@@ -10,18 +10,12 @@ use Rattle.md5_block.specs.Block.{compress}
 use Rattle.md5_digest.specs.Block.{block_size, load}
 use Rattle.md5_digest.specs.Message.{start}
 use Rattle.hmac_md5.specs.Hmac.{ipad, opad}
-use Rattle.hmac_md5.proofs.Masks.{hmac_key_refused, hmac_text_refused, hmac_made}
+use Rattle.hmac_md5.proofs.Masks.{hmac_made}
 use native.Mathlib.Omega.{arith}
 use Rattle.hmac_md5.proofs.hmac.Goals as goal
 
 abbrev first : List ℕ → Words
 first block = compress start (load block)
-
-pub returns-then-key-gt-KEY_MOST : goal.returns-then-key-gt-KEY_MOST
-returns-then-key-gt-KEY_MOST c = cc (hmac_key_refused c.args.key.now c.args.message.now (omega arith))
-
-pub returns-then-message-gt-TEXT_MOST : goal.returns-then-message-gt-TEXT_MOST
-returns-then-message-gt-TEXT_MOST c = cc (hmac_text_refused c.args.key.now c.args.message.now (omega arith) (omega arith))
 
 pub returns : goal.returns
 returns c = let key : c.padded_key-padded.result ≡ filled block_size c.args.key.now = c.padded_key-padded.ensures in

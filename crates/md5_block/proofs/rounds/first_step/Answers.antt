@@ -12,4 +12,4 @@ returns c =
     let hd : Fits w32 c.args.w.d = search rules in
     c.turned.ensures
     ∙ step_made 0 c.args.word c.args.constant _ c.args.w
-    (c.wrapping_add_u32.ensures.value ∙ first_sum c.args.w.a c.args.w.b c.args.w.c c.args.w.d _ _ c.sum_of-sum.ensures hd.fits hb.fits)
+    (first_sum c.args.w.a c.args.w.b c.args.w.c c.args.w.d _ _ c.sum_of-sum.ensures hd.fits hb.fits)

@@ -1,13 +1,7 @@
 -- `md5_digest::Digest::feed` meets its contract: the two tests are the limit of `feed_of`.
-use Rattle.md5_digest.proofs.Answers.{feed_taken, feed_refused}
+use Rattle.md5_digest.proofs.Answers.{feed_refused}
 use native.Mathlib.Omega.{arith}
 use Rattle.md5_digest.proofs.Digest.feed.Goals as goal
 
-pub returns-then-total-gt-DIGEST_MOST : goal.returns-then-total-gt-DIGEST_MOST
-returns-then-total-gt-DIGEST_MOST c = cc (feed_refused c.args.self c.args.piece.now (omega arith))
-
 pub returns-then-total-piece : goal.returns-then-total-piece
 returns-then-total-piece c = cc (feed_refused c.args.self c.args.piece.now (omega arith))
-
-pub returns : goal.returns
-returns c = cc (feed_taken c.args.self c.args.piece.now (omega arith))

@@ -1,34 +1,17 @@
--- `md5_digest::absorbed` meets its contract: the two cases of `absorb` (proofs/Absorb.antt).
+-- `md5_digest::absorbed` meets its contract: the two cases of `absorb` (proofs/Absorb.antt). The short one and the bounds the check finds.
 use Prim.Native.Nat.{ℕ, ◌-◌, ◌%◌}
-use mathlib.Core.Path.{◌≡◌, sym}
+use mathlib.Core.Path.{◌≡◌}
 use lib.ListN.{length, drop, length-drop}
-use lib.Seq.{length-take-le, take_all}
+use lib.Seq.{take_all}
 use native.Mathlib.Omega.{arith}
 use Rattle.md5_digest.specs.Block.{block_size}
-use Rattle.md5_digest.proofs.Absorb.{absorb_short, absorb_long, tail_short, tail_full}
+use Rattle.md5_digest.proofs.Absorb.{absorb_long, tail_full}
 use borrow.Author.Rules.{rules}
 use Rattle.md5_digest.proofs.pieces.absorbed.Goals as goal
-use Rattle.md5_digest.proofs.pieces.absorbed.Goals.{Start}
-
-tail-long : (c : Start) → length c.args.d.tail ≡ block_size
-tail-long c = search rules
-
-pub copy-requires : goal.copy-requires
-copy-requires c = let l = tail-long (goal.at.copy-requires c).Start in omega arith
-
-pub returns-then-piece-gap : goal.returns-then-piece-gap
-returns-then-piece-gap c = let l = tail-long (goal.at.returns-then-piece-gap c).Start in
-    cc (absorb_short c.args.d l c.args.piece.now (omega arith), tail_short c.args.d.tail c.args.piece.now (c.args.d.total % block_size) l (omega arith))
-
-pub slice_bounds-copy-end-2 : goal.slice_bounds-copy-end-2
-slice_bounds-copy-end-2 c = sym (length-take-le _ _ (omega arith))
-
-pub copy-requires-2 : goal.copy-requires-2
-copy-requires-2 c = let l = tail-long (goal.at.copy-requires-2 c).Start in
-    omega (arith, length-take-le (block_size - c.args.d.total % block_size) c.args.piece.now (omega arith))
 
 pub returns : goal.returns
-returns c = let l = tail-long (goal.at.returns c).Start in
+returns c =
+    let l : length c.args.d.tail ≡ block_size = search rules in
     let used : ℕ = c.args.d.total % block_size in
     let gap : ℕ = block_size - used in
     cc (

@@ -1,10 +1,7 @@
 -- `timed_blocks::one_round` meets its contract: after i turns the first i steps are done, and no rotation is a whole turn or more.
-use Rattle.std.proofs.Common.{◌≡◌, ◌-◌, ◌≤◌}
+use Rattle.std.proofs.Common.{◌≡◌}
 use Rattle.md5_block.specs.Block.{steps}
 use Rattle.timed_blocks.proofs.table.one_round.Given as goal
 
 abbrev pub invariant-loop-i : goal.invariant-loop-i
-invariant-loop-i l = (l.i ≤ 16) × (l.v ≡ steps l.x l.r l.i l.initial.v)
-
-abbrev pub decreases-loop-i : goal.decreases-loop-i
-decreases-loop-i l = 16 - l.i
+invariant-loop-i l = l.v ≡ steps l.x l.r l.i l.initial.v

@@ -1,4 +1,4 @@
--- The words A, B, C and D as C lends them, in a list, A first.
+-- The words A, B, C and D in a list, as C lends them, A first.
 use Rattle.std.specs.Prelude.{ℕ, List, [], ◌∷◌, slice_index}
 use Rattle.md5_block.specs.declared.Words.{Words}
 
