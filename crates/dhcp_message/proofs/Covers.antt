@@ -9,7 +9,7 @@ use mathlib.Core.List.{List, ◌++◌}
 use lib.ListN.{length, take, drop, length-append, length-drop}
 use lib.Seq.{length-take-le, take_all}
 use lib.Dec.{leb}
-use borrow.Author.Tests.{le-leb, lt-leb, lt-ltb, le-ltb, leb-true, not-true, not-false}
+use borrow.Author.Tests.{le-leb, lt-ltb, le-ltb, leb-true, not-true, not-false}
 use Rattle.octets.specs.Bytes.{written, zeros}
 use Rattle.octets.proofs.Written.{length_written, written_left, written_join, written_front}
 use Rattle.octets.proofs.Starts.{and_true}
@@ -17,6 +17,7 @@ use Rattle.dhcp_message.specs.Image.{head_zero, cover_fits, image_at, cover_byte
 use Rattle.dhcp_message.specs.Seal.{with_fields}
 use Rattle.dhcp_message.specs.declared.Auth.{Auth}
 use Rattle.dhcp_message.proofs.Headers.{head_left, head_length}
+use Rattle.std.specs.Prelude.{None, Some}
 
 -- ---- the test
 
@@ -48,30 +49,6 @@ module _ (size room : ℕ) (a : Auth) where
         inside = leb-true _ _ h₃.0;
         apart = ⊎_map (leb-true _ _) (leb-true _ _) (either (leb (a.at + 33) a.cut) _ h₃.1);
       }
-
-  -- by the tests of `covers`
-  pub fits_stretch : size < a.cut + a.gap → false ≡ cover_fits size room a
-  unfolding cover_fits
-  fits_stretch h = rw (lt-leb _ _ h)
-
-  module _ (l₁ : a.cut + a.gap ≤ size) where
-    pub fits_short : room < size - a.gap → false ≡ cover_fits size room a
-    unfolding cover_fits
-    fits_short h = rw (le-leb _ _ l₁, lt-leb _ _ h)
-
-    module _ (l₂ : size - a.gap ≤ room) where
-      pub fits_outside : size < a.at + 33 → false ≡ cover_fits size room a
-      unfolding cover_fits
-      fits_outside h = rw (le-leb _ _ l₁, le-leb _ _ l₂, lt-leb _ _ h)
-
-      module _ (l₃ : a.at + 33 ≤ size) where
-        pub fits_before : a.at + 33 ≤ a.cut → true ≡ cover_fits size room a
-        unfolding cover_fits
-        fits_before h = rw (le-leb _ _ l₁, le-leb _ _ l₂, le-leb _ _ l₃, le-leb _ _ h)
-
-        pub fits_behind : a.cut < a.at + 33 → leb (a.cut + a.gap) a.at ≡ cover_fits size room a
-        unfolding cover_fits
-        fits_behind h = rw (le-leb _ _ l₁, le-leb _ _ l₂, le-leb _ _ l₃, lt-leb _ _ h)
 
   fits_all : Fits size room a → cover_fits size room a ≡ true
   unfolding cover_fits
@@ -153,7 +130,7 @@ module _ (m d : List ℕ) (a : Auth) (f : Fits (length m) (length d) a) where
   cover_length = ap length cover_bytes_lem ∙ length_written (image_at a + 17) (zeros 16) (head_zero left) mac_fits ∙ head_size ∙ left_size
 
   -- what is returned, and what is left, where all fits
-  pub cover_fitting : (cover_size m a d ≡ length m - a.gap) × (cover_left m a d ≡ cover_bytes m a ++ drop (length m - a.gap) d)
+  pub cover_fitting : (cover_size m a d ≡ Some (length m - a.gap)) × (cover_left m a d ≡ cover_bytes m a ++ drop (length m - a.gap) d)
   unfolding cover_size cover_left
   cover_fitting = let t = fits_all (length m) (length d) a f in (rw t, rw t)
 
@@ -168,7 +145,7 @@ module _ (m d : List ℕ) (a : Auth) (f : Fits (length m) (length d) a) where
 
   pub covered : (at : ℕ) (d₁ d₂ d₃ : List ℕ) → at ≡ image_at a → d₁ ≡ written 0 (take a.cut m) d
       → d₂ ≡ written a.cut (take (length m - (a.cut + a.gap)) (drop (a.cut + a.gap) m)) d₁
-      → d₃ ≡ written (at + 17) (zeros 16) (head_zero d₂) → (length m - a.gap ≡ cover_size m a d) × (d₃ ≡ cover_left m a d)
+      → d₃ ≡ written (at + 17) (zeros 16) (head_zero d₂) → (Some (length m - a.gap) ≡ cover_size m a d) × (d₃ ≡ cover_left m a d)
   covered at d₁ d₂ d₃ e₀ e₁ e₂ e₃ =
       let tail = drop (length m - a.gap) d in (
         sym cover_fitting.0,
@@ -179,7 +156,7 @@ module _ (m d : List ℕ) (a : Auth) (f : Fits (length m) (length d) a) where
       )
 
 -- where the offsets or the room don't fit, nothing is written
-pub covered_not : (m d : List ℕ) (a : Auth) → cover_fits (length m) (length d) a ≡ false → (0 ≡ cover_size m a d) × (d ≡ cover_left m a d)
+pub covered_not : (m d : List ℕ) (a : Auth) → cover_fits (length m) (length d) a ≡ false → (None ≡ cover_size m a d) × (d ≡ cover_left m a d)
 unfolding cover_size cover_left
 covered_not m d a h = (rw h, rw h)
 

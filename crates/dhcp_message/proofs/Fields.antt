@@ -1,6 +1,5 @@
 -- The 28 bytes of option 90 that a seal writes, counter, id and MAC: inside its body, and in the part that is lent to the writers.
 use mathlib.Core.Path.{◌≡◌, sym, ap, ap₂, ◌∙◌}
-use mathlib.Core.Logic.{◌≢◌}
 use Prim.Native.Nat.{ℕ, ◌+◌, ◌^◌, ◌≤◌, ◌<◌}
 use native.Mathlib.Nat.{add-zero, zero-add}
 use native.Mathlib.Omega.{arith}
@@ -8,7 +7,7 @@ use mathlib.Core.Bool.{true}
 use mathlib.Core.List.{List, ◌∷◌, ◌++◌, append_assoc}
 use lib.ListN.{length, take, drop, length-append, length-drop, take-append-drop}
 use lib.Seq.{length-take-le, take_at, drop_at, drop-append-add, drop-append-le}
-use borrow.Author.Tests.{eq-eqb, ne_eqb}
+use borrow.Author.Tests.{eq-eqb}
 use Rattle.octets.specs.Bytes.{Bytes, written, zeros, starts}
 use Rattle.octets.specs.Numbers.{be, big_at}
 use Rattle.octets.proofs.Written.{length_written, written_over, written_join, written_part, written_same, drop_written, written_parts}
@@ -116,10 +115,6 @@ module _ (counter id : ℕ) where
 -- ---- the writers
 
 module _ (p : List ℕ) (counter id : ℕ) where
-  pub fields_left : length p ≢ 28 → p ≡ fields_put p counter id
-  unfolding fields_put
-  fields_left h = rw (ne_eqb _ _ h)
-
   fields_there : length p ≡ 28 → fields_put p counter id ≡ written 0 (fields counter id) p
   unfolding fields_put
   fields_there h = rw (eq-eqb _ _ h)
@@ -131,10 +126,6 @@ module _ (p : List ℕ) (counter id : ℕ) where
       ∙ sym (fields_there h)
 
 module _ (p mac : List ℕ) where
-  pub mac_left : length p ≢ 28 → p ≡ mac_put p mac
-  unfolding mac_put
-  mac_left h = rw (ne_eqb _ _ h)
-
   pub mac_there : length p ≡ 28 → mac_put p mac ≡ written 12 mac p
   unfolding mac_put
   mac_there h = rw (eq-eqb _ _ h)

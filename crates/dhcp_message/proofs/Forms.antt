@@ -4,7 +4,7 @@ use mathlib.Core.Logic.{◌≢◌}
 use Prim.Native.Nat.{ℕ, ◌+◌, ◌≤◌, ◌<◌}
 use native.Mathlib.Omega.{arith}
 use mathlib.Core.Bool.{Bool, true, false}
-use mathlib.Core.List.{List, ◌++◌}
+use mathlib.Core.List.{List, [], ◌∷◌, ◌++◌}
 use lib.ListN.{length, take, drop, get_or, length-drop, get_or-append}
 use lib.Seq.{drop-drop, get_or-drop, take-append-le, drop-append-le}
 use lib.Dec.{eqb}
@@ -20,12 +20,10 @@ use Rattle.dhcp_message.specs.Said.{Said, says, said_for, full_said, said_by, au
 use Rattle.dhcp_message.specs.Shape.{places_of, shape_in, shape_of}
 use Rattle.dhcp_message.specs.declared.Places.{Places}
 use Rattle.dhcp_message.specs.declared.Auth.{Auth}
-use Rattle.dhcp_message.specs.declared.Form.{Form}
-use Rattle.dhcp_message.specs.declared.Form.TheVariants.{Refused, Full}
-use Rattle.dhcp_message.specs.declared.Shape.TheVariants.{Refused as SRefused, Passed as SPassed}
-use Rattle.octets.proofs.Starts.{starts_append}
+use Rattle.octets.proofs.Starts.{starts_append, starts_short}
 use Rattle.octets.proofs.HighFirst.{big_from, big_append}
 use Rattle.dhcp_message.proofs.Passing.{Passing, passing, shape_in_lem, form_in_lem, form_passed, from_option, inside, split_90, option_length}
+use Rattle.std.specs.Prelude.{Err, Ok, Result}
 
 -- ---- what option 90 says, read off a message
 
@@ -35,12 +33,12 @@ unfolding said_by
 said_full x n t = ap₂ (λ (n : ℕ) (b : Bool). said_for (eqb n 31) (eqb n 11) b (full_said x)) n t
 
 -- and nothing else does
-pub only_full : (x : List ℕ) (p : Places) (a : Auth) → form_said p (said_by x) ≡ Full a
+pub only_full : (x : List ℕ) (p : Places) (a : Auth) → form_said p (said_by x) ≡ Ok a
     → (get_or x 1 0 ≡ 31) × (starts delayed (drop 2 x) ≡ true)
 unfolding said_by
 only_full x p a e = by (eqb (get_or x 1 0) 31) (eqb (get_or x 1 0) 11) (starts delayed (drop 2 x)) refl refl e
   where
-    by : (u v b : Bool) → eqb (get_or x 1 0) 31 ≡ u → starts delayed (drop 2 x) ≡ b → form_said p (said_for u v b (full_said x)) ≡ Full a
+    by : (u v b : Bool) → eqb (get_or x 1 0) 31 ≡ u → starts delayed (drop 2 x) ≡ b → form_said p (said_for u v b (full_said x)) ≡ Ok a
         → (get_or x 1 0 ≡ 31) × (starts delayed (drop 2 x) ≡ true)
     by true v true hu hb e = (eqb-true _ _ hu, hb)
     by true v false hu hb e = let z : ◌≡◌ {A = ℕ} 0 1 = cc in absurd (omega arith)
@@ -81,13 +79,21 @@ module _ (x t : List ℕ) where
       ap (λ (n : ℕ). said_for (eqb n 31) (eqb n 11) (starts delayed (drop 2 (x ++ t))) (full_said (x ++ t))) (get_or-append x t 0 1 (omega arith))
       ∙ said_by_lem (eqb (get_or x 1 0) 31) (eqb (get_or x 1 0) 11) refl refl h
 
+-- ---- a method that passes the end
+
+pub method_past : (m : List ℕ) (at protocol algorithm replay : ℕ) → length m < at + 5
+    → false ≡ starts (protocol ∷ algorithm ∷ replay ∷ []) (drop (at + 2) m)
+method_past m at protocol algorithm replay h =
+    let n = length-drop (at + 2) m in
+    starts_short (protocol ∷ algorithm ∷ replay ∷ []) (drop (at + 2) m) (omega arith)
+
 -- ---- by the tests of `form_at`
 
 module _ (m : List ℕ) (p : Places) where
   abbrev at : ℕ
   at = p.at
 
-  abbrev answer : Form
+  abbrev answer : Result Auth Refusal
   answer = form_said p (said_by (drop at m))
 
   -- what stands at the offset, by length, method, counter and id
@@ -105,19 +111,21 @@ module _ (m : List ℕ) (p : Places) where
 
   module _ (d : Bool) (e : d ≡ starts delayed (drop (at + 2) m)) where
     pub form_full : (counter id : ℕ) → get_or m (at + 1) 0 ≡ 31 → d ≡ true → counter ≡ big_at m (at + 5) 8 → id ≡ big_at m (at + 13) 4
-        → Full (auth_of p counter id) ≡ answer
+        → Ok (auth_of p counter id) ≡ answer
     form_full counter id n t ec ei = rw t at (answer_is 31 d counter id n e ec ei)
 
-    pub form_other : get_or m (at + 1) 0 ≡ 31 → d ≡ false → Refused OtherAuthentication ≡ answer
-    form_other n t = rw t at (answer_is 31 d _ _ n e refl refl)
+    pub form_other : d ≡ false → Err OtherAuthentication ≡ answer
+    form_other t = by (eqb (get_or m (at + 1) 0) 31) (eqb (get_or m (at + 1) 0) 11) _ ∙ rw t at (answer_is _ d _ _ refl e refl refl)
+      where
+        by : (u v : Bool) (s : Said) → Err OtherAuthentication ≡ form_said p (said_for u v false s)
+        by true v s = refl
+        by false true s = refl
+        by false false s = refl
 
-    pub form_request : get_or m (at + 1) 0 ≡ 11 → d ≡ true → Refused RequestForm ≡ answer
+    pub form_request : get_or m (at + 1) 0 ≡ 11 → d ≡ true → Err RequestForm ≡ answer
     form_request n t = rw t at (answer_is 11 d _ _ n e refl refl)
 
-    pub form_other_request : get_or m (at + 1) 0 ≡ 11 → d ≡ false → Refused OtherAuthentication ≡ answer
-    form_other_request n t = rw t at (answer_is 11 d _ _ n e refl refl)
-
-  pub form_other_length : get_or m (at + 1) 0 ≢ 31 → get_or m (at + 1) 0 ≢ 11 → Refused OtherAuthentication ≡ answer
+  pub form_other_length : get_or m (at + 1) 0 ≢ 31 → get_or m (at + 1) 0 ≢ 11 → Err OtherAuthentication ≡ answer
   form_other_length n k = rw (ne_eqb _ _ n, ne_eqb _ _ k) at (answer_is _ _ _ _ refl refl refl refl)
 
 -- ---- of a message that passes 2 to 7
@@ -136,11 +144,11 @@ module _ {m : List ℕ} {ts : List Token} {rest : List ℕ} (p : Passing m ts re
 -- ---- `form_of`
 
 module _ (m : List ℕ) where
-  pub form_refused : (r : Refusal) → SRefused r ≡ shape_of m → Refused r ≡ form_of m
+  pub form_refused : (r : Refusal) → Err r ≡ shape_of m → Err r ≡ form_of m
   form_refused r e = by (checked_of m) (e ∙ shape_in_lem m) ∙ sym (form_in_lem m)
     where
-      by : (c : Checked) → SRefused r ≡ shape_in c → Refused r ≡ form_in c
-      by (stopped q) e = let z : r ≡ q = cc in ap Refused z
+      by : (c : Checked) → Err r ≡ shape_in c → Err r ≡ form_in c
+      by (stopped q) e = let z : r ≡ q = cc in ap Err z
       by (passed ts rest) e = let z : ◌≡◌ {A = ℕ} 0 1 = cc in absurd (omega arith)
 
   -- what is known of the places of a message that passes
@@ -150,23 +158,23 @@ module _ (m : List ℕ) where
     passes : Passing m tokens rest
     places : places_of tokens ≡ p
 
-  placed : (p : Places) → SPassed p ≡ shape_of m → Placed p
+  placed : (p : Places) → Ok p ≡ shape_of m → Placed p
   placed p e = by (checked_of m) refl (e ∙ shape_in_lem m)
     where
-      by : (c : Checked) → checked_of m ≡ c → SPassed p ≡ shape_in c → Placed p
+      by : (c : Checked) → checked_of m ≡ c → Ok p ≡ shape_in c → Placed p
       by (stopped q) h e = let z : ◌≡◌ {A = ℕ} 0 1 = cc in absurd (omega arith)
       by (passed ts rest) h e = record { tokens = ts; rest = rest; passes = passing m ts rest h; places = cc }
 
-  pub form_fits_lem : (p : Places) → SPassed p ≡ shape_of m → p.at + 2 + get_or m (p.at + 1) 0 ≤ length m
+  pub form_fits_lem : (p : Places) → Ok p ≡ shape_of m → p.at + 2 + get_or m (p.at + 1) 0 ≤ length m
   form_fits_lem p e =
       let q = placed p e in
       subst (λ (p : Places). p.at + 2 + get_or m (p.at + 1) 0 ≤ length m) q.places (whole_in_place q.passes)
 
   -- and such a message is not too long
-  pub form_short : (p : Places) → SPassed p ≡ shape_of m → length m ≤ 1472
+  pub form_short : (p : Places) → Ok p ≡ shape_of m → length m ≤ 1472
   form_short p e = (placed p e).passes.short
 
-  pub form_where_passed : (p : Places) (f : Form) → SPassed p ≡ shape_of m → f ≡ form_said p (said_by (drop p.at m)) → f ≡ form_of m
+  pub form_where_passed : (p : Places) (f : Result Auth Refusal) → Ok p ≡ shape_of m → f ≡ form_said p (said_by (drop p.at m)) → f ≡ form_of m
   form_where_passed p f e h =
       let q = placed p e in
       h ∙ ap (λ (p : Places). form_said p (said_by (drop p.at m))) (sym q.places)

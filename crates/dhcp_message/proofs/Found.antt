@@ -12,9 +12,9 @@ use Rattle.dhcp_message.specs.Options.{Token, pad, opt, encode}
 use Rattle.dhcp_message.specs.Message.{count, option_of, tokens_before}
 use Rattle.dhcp_message.specs.Scan.{seen_of, scan_from}
 use Rattle.dhcp_message.specs.declared.scan.Tally.{Tally}
-use Rattle.dhcp_message.specs.declared.scan.Scan.TheVariants.{Whole as SWhole}
 use Rattle.dhcp_message.proofs.Tokens.{nil_right, no_hit, Split, split, option_at, before_at, none_back}
 use Rattle.dhcp_message.proofs.Turns.{seen_auth, seen_relay, seen_other}
+use Rattle.dhcp_message.specs.Scan.{scan_to}
 
 -- ---- what was found, on tokens
 
@@ -52,16 +52,16 @@ module _ (f : Tally) (c at : ℕ) (b : List ℕ) (ts : List Token) where
       let e = seen_other f c at (2 + length b) (eqb-false c 90 hx) (eqb-false c 82 hy) in
       rw (← e, hx, hy, zero-add (count 90 ts), zero-add (count 82 ts))
 
-pub scan_is : (ts : List Token) (f : Tally) (at : ℕ) → scan_from f at ts ≡ SWhole (resume f at ts) (at + length (encode ts))
+pub scan_is : (ts : List Token) (f : Tally) (at : ℕ) → scan_from f at ts ≡ scan_to (resume f at ts) (at + length (encode ts))
 scan_is [] f at = rw (add-zero f.n90, add-zero f.n82, add-zero at)
 scan_is (pad ∷ ts) f at =
     let e : at + 1 + length (encode ts) ≡ at + suc (length (encode ts)) = omega arith in
-    scan_is ts f (at + 1) ∙ ap (SWhole (resume f (at + 1) ts)) e
+    scan_is ts f (at + 1) ∙ ap (scan_to (resume f (at + 1) ts)) e
 scan_is (opt c b ∷ ts) f at =
     let l = length-append b (encode ts) in
     let e : at + (2 + length b) + length (encode ts) ≡ at + suc (suc (length (b ++ encode ts))) = omega arith in
     scan_is ts (seen_of f c at (2 + length b)) (at + (2 + length b))
-    ∙ ap₂ SWhole (one_more_lem f c at b ts (eqb c 90) (eqb c 82) refl refl) e
+    ∙ ap₂ scan_to (one_more_lem f c at b ts (eqb c 90) (eqb c 82) refl refl) e
 
 -- ---- of an option that is there once, the last is the first
 

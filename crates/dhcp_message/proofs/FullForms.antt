@@ -15,10 +15,10 @@ use Rattle.dhcp_message.specs.Message.{option_of, offset_of, Checked, stopped, p
 use Rattle.dhcp_message.specs.Shape.{places_of}
 use Rattle.dhcp_message.specs.Said.{says, said_of, auth_of, form_said, form_in, form_of}
 use Rattle.dhcp_message.specs.declared.Auth.{Auth}
-use Rattle.dhcp_message.specs.declared.Form.TheVariants.{Full}
 use Rattle.dhcp_message.proofs.Tokens.{Split}
 use Rattle.dhcp_message.proofs.Passing.{Passing, passing, form_in_lem, said_passed, from_option, inside, split_90, length_byte, option_length}
 use Rattle.dhcp_message.proofs.Forms.{said_full, only_full}
+use Rattle.std.specs.Prelude.{Ok}
 
 pub record Fully (m : List ℕ) (a : Auth) : Type 0 where
   pub tokens : List Token
@@ -28,10 +28,10 @@ pub record Fully (m : List ℕ) (a : Auth) : Type 0 where
   pub method : starts delayed (drop 2 (option_of 90 tokens)) ≡ true
   pub is : a ≡ auth_of (places_of tokens) (big_at (option_of 90 tokens) 5 8) (big_at (option_of 90 tokens) 13 4)
 
-pub fully : (m : List ℕ) (a : Auth) → form_of m ≡ Full a → Fully m a
+pub fully : (m : List ℕ) (a : Auth) → form_of m ≡ Ok a → Fully m a
 fully m a e = by (checked_of m) refl (sym (form_in_lem m) ∙ e)
   where
-    by : (c : Checked) → checked_of m ≡ c → form_in c ≡ Full a → Fully m a
+    by : (c : Checked) → checked_of m ≡ c → form_in c ≡ Ok a → Fully m a
     by (stopped r) h e = let z : ◌≡◌ {A = ℕ} 0 1 = cc in absurd (omega arith)
     by (passed ts rest) h e =
         let w = only_full (option_of 90 ts) (places_of ts) a e in

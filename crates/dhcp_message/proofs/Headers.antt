@@ -5,10 +5,10 @@ use native.Mathlib.Omega.{arith}
 use mathlib.Core.List.{List, ◌++◌}
 use lib.ListN.{length, take, drop, length-drop, take-append-drop}
 use lib.Seq.{length-take-le, take-append-le, drop-append-le}
-use Rattle.octets.specs.Bytes.{Bytes, written, zeros}
+use Rattle.octets.specs.Bytes.{Bytes, written}
 use Rattle.octets.proofs.Written.{length_written, written_left, written_over, written_apart, drop_written, written_same, written_parts}
 use Rattle.octets.proofs.Elements.{bytes_written}
-use Rattle.dhcp_message.specs.Image.{head_with, head_zero}
+use Rattle.dhcp_message.specs.Image.{head_with}
 
 -- a stretch before what is written stands as it was
 before_written : (i n at : ℕ) (new old : List ℕ) → i + n ≤ at → at ≤ length old → take n (drop i (written at new old)) ≡ take n (drop i old)
@@ -63,8 +63,3 @@ head_own p h =
 
 pub head_bytes : (x y p : List ℕ) → Bytes x → Bytes y → Bytes p → Bytes (head_with x y p)
 head_bytes x y p bx by bp = bytes_written 24 y (written 3 x p) by (bytes_written 3 x p bx bp)
-
--- the three writes of `blank`
-pub blanked : (d d₁ d₂ d₃ : List ℕ) (at : ℕ) → d₁ ≡ written 3 (zeros 1) d → d₂ ≡ written 24 (zeros 4) d₁ → d₃ ≡ written (at + 17) (zeros 16) d₂
-    → d₃ ≡ written (at + 17) (zeros 16) (head_zero d)
-blanked d d₁ d₂ d₃ at e₁ e₂ e₃ = e₃ ∙ ap (written (at + 17) (zeros 16)) (e₂ ∙ ap (written 24 (zeros 4)) e₁)

@@ -21,6 +21,7 @@ use Rattle.dhcp_message.proofs.Passing.{Passing, whole, header_size_lem, image_p
 use Rattle.dhcp_message.proofs.FullForms.{Fully, parts, at_is, cut_is, gap_is, body_long, option_inside}
 use Rattle.dhcp_message.proofs.Headers.{head_left, head_length}
 use Rattle.dhcp_message.proofs.Covers.{Apart, Fits, image_before, image_behind, cover_bytes_lem, cover_length, cover_fitting}
+use Rattle.std.specs.Prelude.{Some}
 
 -- ---- option 82 taken out of the bytes
 
@@ -188,7 +189,7 @@ module _ {m : List ℕ} {a : Auth} (y : Fully m a) where
   image_length = ap length (sym image_is) ∙ cover_length m m a (fits_full (length m) (omega arith))
 
   pub covers_full : (out : List ℕ) → length m ≤ length out
-      → (cover_size m a out ≡ length (image_of m)) × (cover_left m a out ≡ image_of m ++ drop (length (image_of m)) out)
+      → (cover_size m a out ≡ Some (length (image_of m))) × (cover_left m a out ≡ image_of m ++ drop (length (image_of m)) out)
   covers_full out h =
       let c = cover_fitting m out a (fits_full (length out) h) in
-      (c.0 ∙ sym image_length, c.1 ∙ ap₂ (λ (x : List ℕ) (n : ℕ). x ++ drop n out) image_is (sym image_length))
+      (c.0 ∙ ap Some (sym image_length), c.1 ∙ ap₂ (λ (x : List ℕ) (n : ℕ). x ++ drop n out) image_is (sym image_length))

@@ -7,7 +7,6 @@ use native.Mathlib.Decide.{ℕ_discrete, dec_lt}
 use native.Mathlib.Omega.{arith}
 use mathlib.Core.Bool.{Bool, true, false, cond}
 use mathlib.Core.List.{List}
-use mathlib.Core.Option.{Option, none, some}
 use lib.ListN.{length, drop}
 use lib.Dec.{ltb, eqb}
 use borrow.Author.Tests.{ltb-true, ltb-false, eqb-true, eqb-false}
@@ -23,20 +22,18 @@ use Rattle.octets.specs.Bytes.{Bytes, starts}
 use Rattle.dhcp_message.specs.Options.{Token, Parsed, broken, parsed, encode, decode, Reads}
 use Rattle.dhcp_message.specs.Message.{count, option_of, tokens_before, offset_of, Checked, stopped, passed, checked_tokens, checked_parsed, checked_of, Passed}
 use Rattle.dhcp_message.specs.Shape.{places_of, shape_in, shape_of}
-use Rattle.dhcp_message.specs.Said.{refused, says, said_for, said_by, form_said, form_in, form_of, form_number}
+use Rattle.dhcp_message.specs.Said.{says, said_for, said_by, form_said, form_in, form_of, form_number}
 use Rattle.dhcp_message.specs.Numbers.{WhereRead, Has, OtherForm, LowestGiven, StandsAt, RelayAt, relay_there, no_relay, ShapeGiven, Applies, wrong_size}
 use Rattle.dhcp_message.specs.Numbers.{wrong_cookie, broken_options, no_authentication, repeated_authentication, repeated_relay_information}
 use Rattle.dhcp_message.specs.Numbers.{other_form, request_form}
 use Rattle.dhcp_message.specs.declared.Auth.{Auth}
-use Rattle.dhcp_message.specs.declared.Form.{Form}
-use Rattle.dhcp_message.specs.declared.Form.TheVariants.{Refused, Full}
 use Rattle.dhcp_message.specs.declared.Places.{Places}
-use Rattle.dhcp_message.specs.declared.Shape.TheVariants.{Refused as SRefused, Passed as SPassed}
 use Rattle.octets.proofs.Starts.{starts_true, starts_not}
 use Rattle.octets.proofs.Elements.{bytes_drop}
 use Rattle.dhcp_message.proofs.Decoding.{decode_reads, reads_decode}
 use Rattle.dhcp_message.proofs.Tokens.{once, Split, split, count_split, option_there, option_none, option_at, before_none, before_at}
 use Rattle.dhcp_message.proofs.Passing.{Passing, passing, split_90}
+use Rattle.std.specs.Prelude.{Err, None, Ok, Option, Result, Some}
 
 -- ---- which numbers the message alone decides
 
@@ -140,11 +137,11 @@ module _ (m : List ℕ) (bytes : Bytes m) where
 
 -- ---- 8 and 9
 
-abbrev refusal_in : Form → Option Refusal
-refusal_in (Refused r) = some r
-refusal_in (Full a) = none
+abbrev refusal_in : Result Auth Refusal → Option Refusal
+refusal_in (Err r) = Some r
+refusal_in (Ok a) = None
 
-abbrev GivenForm : List ℕ → Form → Type 0
+abbrev GivenForm : List ℕ → Result Auth Refusal → Type 0
 GivenForm m f = Right (Applies m) (refusal_in f)
 
 module _ (m : List ℕ) (bytes : Bytes m) (ts : List Token) (rest : List ℕ) (p : Passing m ts rest) (h : Below m 8) where
@@ -204,13 +201,13 @@ given_form m b = by (checked_of m) refl (given m b)
 -- ---- the statement
 
 -- a form by its number
-number_named : (r : Refusal) (f : Form) → form_number f ≡ number_of r → f ≡ Refused r
-number_named r (Refused q) e = ap Refused (numbers_tell.apart q r e)
-number_named r (Full a) e = absurd (omega (arith, numbers_tell.not_done r))
+number_named : (r : Refusal) (f : Result Auth Refusal) → form_number f ≡ number_of r → f ≡ Err r
+number_named r (Err q) e = ap Err (numbers_tell.apart q r e)
+number_named r (Ok a) e = absurd (omega (arith, numbers_tell.not_done r))
 
-number_full : (f : Form) → form_number f ≡ done → (a : Auth) × (f ≡ Full a)
-number_full (Refused r) e = absurd (omega (arith, numbers_tell.not_done r))
-number_full (Full a) e = (a, refl)
+number_full : (f : Result Auth Refusal) → form_number f ≡ done → (a : Auth) × (f ≡ Ok a)
+number_full (Err r) e = absurd (omega (arith, numbers_tell.not_done r))
+number_full (Ok a) e = (a, refl)
 
 passes_where_none : (m : List ℕ) (c : Checked) → Given m c → (Passed c → Below m 8) × (Below m 8 → Passed c)
 passes_where_none m (stopped r) g = (λ h. absurd h, λ n. n r g.2 g.0)
@@ -219,9 +216,9 @@ passes_where_none m (passed ts rest) g = (λ h. g, λ n. tt)
 number_lowest : (m : List ℕ) → Bytes m → Lowest (Applies m) (form_number (form_of m))
 number_lowest m b = by (form_of m) (given_form m b)
   where
-    by : (f : Form) → GivenForm m f → Lowest (Applies m) (form_number f)
-    by (Refused r) g = lowest (Applies m) (some r) g
-    by (Full a) g = lowest (Applies m) none g
+    by : (f : Result Auth Refusal) → GivenForm m f → Lowest (Applies m) (form_number f)
+    by (Err r) g = lowest (Applies m) (Some r) g
+    by (Ok a) g = lowest (Applies m) None g
 
 pub lowest_given : LowestGiven
 lowest_given = record {
@@ -246,18 +243,18 @@ module _ (m : List ℕ) where
       ]
 
   shape_stopped : (r : Refusal) (c : Checked) → Given m c
-      → (shape_in c ≡ SRefused r) ↔ (Applies m r × Below m (number_of r) × (number_of r < 8))
+      → (shape_in c ≡ Err r) ↔ (Applies m r × Below m (number_of r) × (number_of r < 8))
   shape_stopped r (stopped q) g = (
     λ e. let z : q ≡ r = cc in subst (λ (x : Refusal). Applies m x × Below m (number_of x) × (number_of x < 8)) z g,
-    λ h. ap SRefused (one_lowest q r g.0 g.1 h.0 h.1),
+    λ h. ap Err (one_lowest q r g.0 g.1 h.0 h.1),
   )
   shape_stopped r (passed ts rest) g = (λ e. let z : ◌≡◌ {A = ℕ} 0 1 = cc in absurd (omega arith), λ h. absurd (g r h.2 h.0))
 
-  shape_passed : (c : Checked) → Given m c → ((p : Places) × (shape_in c ≡ SPassed p)) ↔ Below m 8
+  shape_passed : (c : Checked) → Given m c → ((p : Places) × (shape_in c ≡ Ok p)) ↔ Below m 8
   shape_passed (stopped r) g = (λ h. let e = h.1 in let z : ◌≡◌ {A = ℕ} 0 1 = cc in absurd (omega arith), λ n. absurd (n r g.2 g.0))
   shape_passed (passed ts rest) g = (λ h. g, λ n. (places_of ts, refl))
 
-  shape_stands : Bytes m → (p : Places) (c : Checked) → checked_of m ≡ c → shape_in c ≡ SPassed p
+  shape_stands : Bytes m → (p : Places) (c : Checked) → checked_of m ≡ c → shape_in c ≡ Ok p
       → WhereRead (λ ts. (count 90 ts ≡ 1) × StandsAt 90 p.at ts) m
   shape_stands b p (stopped r) e f = let z : ◌≡◌ {A = ℕ} 0 1 = cc in absurd (omega arith)
   shape_stands b p (passed ts rest) e f =
@@ -275,7 +272,7 @@ module _ (m : List ℕ) where
         },
       )
 
-  relay_stands : Bytes m → (p : Places) (c : Checked) → checked_of m ≡ c → shape_in c ≡ SPassed p → WhereRead (RelayAt p.cut p.gap) m
+  relay_stands : Bytes m → (p : Places) (c : Checked) → checked_of m ≡ c → shape_in c ≡ Ok p → WhereRead (RelayAt p.cut p.gap) m
   relay_stands b p (stopped r) e f = let z : ◌≡◌ {A = ℕ} 0 1 = cc in absurd (omega arith)
   relay_stands b p (passed ts rest) e f =
       let w = passing m ts rest e in

@@ -3,7 +3,6 @@ use mathlib.Core.Path.{◌≡◌, refl}
 use mathlib.Core.Logic.{◌⊎◌, inl, inr}
 use mathlib.Core.Bool.{Bool, true, false, true≢false}
 use Prim.Native.Nat.{ℕ, ◌≤◌, ◌<◌}
-use lib.Dec.{ltb}
 use borrow.Author.Tests.{lt-ltb, le-ltb, ltb-true, ltb-false}
 use Rattle.dhcp_message.specs.Replay.{is_new, NewSays}
 
@@ -22,15 +21,6 @@ module _ (stored counter : ℕ) where
   pub above_new : is_new true stored counter ≡ true → stored < counter
   unfolding is_new
   above_new e = ltb-true _ _ e
-
-  -- what `is_new` answers
-  pub is_above : (heard : Bool) → heard ≡ true → ltb stored counter ≡ is_new heard stored counter
-  unfolding is_new
-  is_above heard e = rw e
-
-  pub is_first : (heard : Bool) → heard ≡ false → true ≡ is_new heard stored counter
-  unfolding is_new
-  is_first heard e = rw e
 
   -- a counter that is not new
   pub old_counter : (heard : Bool) → is_new heard stored counter ≡ false → (heard ≡ true) × (counter ≤ stored)

@@ -21,8 +21,6 @@ use Rattle.dhcp_message.specs.Image.{without, mac_zero, head_zero, image_of}
 use Rattle.dhcp_message.specs.Seal.{fields, sealed_with, with_fields, FullForm, Rewritten, SealLaws}
 use Rattle.dhcp_message.specs.declared.Places.{Places}
 use Rattle.dhcp_message.specs.declared.Auth.{Auth}
-use Rattle.dhcp_message.specs.declared.Form.{Form}
-use Rattle.dhcp_message.specs.declared.Form.TheVariants.{Refused, Full}
 use Rattle.dhcp_message.proofs.Decoding.{Codes, codes_append, codes_left, codes_right}
 use Rattle.dhcp_message.proofs.Tokens.{auth_not_relay, encode_append, count_append, option_other, before_other, option_there, before_there}
 use Rattle.dhcp_message.proofs.Tokens.{without_append, zero_append, written_body, option_at, before_at}
@@ -35,6 +33,7 @@ use Rattle.dhcp_message.proofs.Covers.{covers_offsets}
 use Rattle.dhcp_message.proofs.Images.{stretch_inside, image_length, covers_full}
 use Rattle.dhcp_message.proofs.Fields.{body_size, said_new, zeroed_new, fields_bytes, seal_size_lem, counter_read, id_read, mac_read, fields_read}
 use Rattle.dhcp_message.proofs.Fields.{fields_lent, mac_lent, mac_behind, fields_alone}
+use Rattle.std.specs.Prelude.{Err, Ok, Result}
 
 -- ---- the message with the 28 bytes written
 
@@ -116,8 +115,8 @@ module _ {m : List ℕ} {a : Auth} (y : Fully m a) (new : List ℕ) (size : leng
     gap = (ap length option_same ∙ sym (gap_is y)) i;
   }
 
-  form_sealed : form_of out ≡ Full (with_fields a (big_at new 0 8) (big_at new 8 4))
-  form_sealed = form_passed passing_sealed ∙ ap (form_said (places_of (with_body body'))) said_bytes ∙ ap Full auth_same
+  form_sealed : form_of out ≡ Ok (with_fields a (big_at new 0 8) (big_at new 8 4))
+  form_sealed = form_passed passing_sealed ∙ ap (form_said (places_of (with_body body'))) said_bytes ∙ ap Ok auth_same
 
   said_sealed : said_of out ≡ says (big_at new 0 8) (big_at new 8 4) (drop 12 new)
   said_sealed = said_passed passing_sealed ∙ said_bytes
@@ -135,7 +134,7 @@ module _ {m : List ℕ} {a : Auth} (y : Fully m a) (new : List ℕ) (size : leng
       (take_built out (take 240 m) (with_body body') y.rest out_is (header_size_lem p)) w
       ∙ ap image_with (zeroed_new body new (body_long y) size)
 
-sealed : (m : List ℕ) (a : Auth) (new : List ℕ) → form_of m ≡ Full a → length new ≡ 28 → Rewritten m a new
+sealed : (m : List ℕ) (a : Auth) (new : List ℕ) → form_of m ≡ Ok a → length new ≡ 28 → Rewritten m a new
 sealed m a new e h =
     let y = fully m a e in
     record {
@@ -151,7 +150,7 @@ sealed m a new e h =
 
 -- ---- what a message in full form has
 
-pub full_form : (m : List ℕ) (a : Auth) → form_of m ≡ Full a → FullForm m a
+pub full_form : (m : List ℕ) (a : Auth) → form_of m ≡ Ok a → FullForm m a
 full_form m a e =
     let y = fully m a e in
     let bytes : Bytes m → Bytes (option y) = λ b. bytes_left (option y) _ (subst Bytes (from_at y) (bytes_drop a.at m b)) in
@@ -170,30 +169,30 @@ full_form m a e =
 
 -- ---- what a message says is what its form says
 
-refused_said : (m : List ℕ) (r : Refusal) → form_of m ≡ Refused r → said_of m ≡ refused r
+refused_said : (m : List ℕ) (r : Refusal) → form_of m ≡ Err r → said_of m ≡ refused r
 refused_said m r e = said_in_lem m ∙ by (checked_of m) (sym (form_in_lem m) ∙ e)
   where
-    by_said : (p : Places) (s : Said) → form_said p s ≡ Refused r → s ≡ refused r
+    by_said : (p : Places) (s : Said) → form_said p s ≡ Err r → s ≡ refused r
     by_said p (refused q) e = let z : q ≡ r = cc in ap refused z
     by_said p (says c i x) e = let z : ◌≡◌ {A = ℕ} 0 1 = cc in absurd (omega arith)
 
-    by : (c : Checked) → form_in c ≡ Refused r → said_in c ≡ refused r
+    by : (c : Checked) → form_in c ≡ Err r → said_in c ≡ refused r
     by (stopped q) e = let z : q ≡ r = cc in ap refused z
     by (passed ts rest) e = by_said (places_of ts) (said_by (option_of 90 ts)) e
 
 said_form : (m : List ℕ) → said_of m ≡ form_says m (form_of m)
 said_form m = by (form_of m) refl
   where
-    by : (f : Form) → form_of m ≡ f → said_of m ≡ form_says m f
-    by (Refused r) e = refused_said m r e
-    by (Full a) e = said_there (fully m a e)
+    by : (f : Result Auth Refusal) → form_of m ≡ f → said_of m ≡ form_says m f
+    by (Err r) e = refused_said m r e
+    by (Ok a) e = said_there (fully m a e)
 
 named_form : (m : List ℕ) → named m ≡ form_names (form_of m)
 named_form m = named_in m ∙ ap id_of (said_form m) ∙ by (form_of m)
   where
-    by : (f : Form) → id_of (form_says m f) ≡ form_names f
-    by (Refused r) = refl
-    by (Full a) = refl
+    by : (f : Result Auth Refusal) → id_of (form_says m f) ≡ form_names f
+    by (Err r) = refl
+    by (Ok a) = refl
 
 pub form_says_lem : FormSays
 form_says_lem = record {
@@ -205,7 +204,7 @@ form_says_lem = record {
 
 -- ---- what the crate above goes by
 
-any_mac : (m : List ℕ) (a : Auth) (counter id : ℕ) (mac other : List ℕ) → form_of m ≡ Full a → length mac ≡ 16 → length other ≡ 16
+any_mac : (m : List ℕ) (a : Auth) (counter id : ℕ) (mac other : List ℕ) → form_of m ≡ Ok a → length mac ≡ 16 → length other ≡ 16
     → image_of (sealed_with a (fields counter id ++ mac) m) ≡ image_of (sealed_with a (fields counter id ++ other) m)
 any_mac m a counter id mac other e h g =
     (sealed m a (fields counter id ++ mac) e (seal_size_lem counter id mac h)).image (fields counter id ++ other) (seal_size_lem counter id other g)

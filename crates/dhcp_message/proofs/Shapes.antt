@@ -1,6 +1,6 @@
 -- Checks 2 to 7 by the tests of the code: what the pass over the options finds decides 5 to 7 as the definitions on tokens do.
 use mathlib.Core.Path.{◌≡◌, refl, sym, ap, ◌∙◌}
-use mathlib.Core.Logic.{◌≢◌}
+use mathlib.Core.Logic.{◌⊎◌, inl, inr}
 use Prim.Native.Nat.{ℕ, ◌+◌, ◌≤◌, ◌<◌}
 use native.Mathlib.Nat.{zero-add}
 use native.Mathlib.Omega.{arith}
@@ -8,7 +8,7 @@ use mathlib.Core.Bool.{Bool, true, false, cond}
 use mathlib.Core.List.{List}
 use lib.ListN.{length, drop}
 use lib.Dec.{ltb, eqb}
-use borrow.Author.Tests.{ne_eqb, eq-eqb, lt-ltb, le-ltb, eqb-true, eqb-false, ltb-true, ltb-false}
+use borrow.Author.Tests.{eqb-true, eqb-false, ltb-true, ltb-false}
 use Rattle.refusal.specs.declared.Refusal.TheVariants.{MessageSize, WrongCookie, BrokenOptions}
 use Rattle.refusal.specs.declared.Refusal.TheVariants.{NoAuthentication, RepeatedAuthentication, RelayInformation}
 use Rattle.octets.specs.Bytes.{starts}
@@ -19,45 +19,21 @@ use Rattle.dhcp_message.specs.Scan.{scan_parsed, empty_tally, scan_of}
 use Rattle.dhcp_message.specs.Scan.{shape_found}
 use Rattle.dhcp_message.specs.Shape.{places_of, shape_in, shape_of}
 use Rattle.dhcp_message.specs.declared.scan.Tally.{Tally}
-use Rattle.dhcp_message.specs.declared.scan.Scan.{Scan}
-use Rattle.dhcp_message.specs.declared.scan.Scan.TheVariants.{Broken as SBroken, Whole as SWhole}
 use Rattle.dhcp_message.specs.declared.Places.{Places}
-use Rattle.dhcp_message.specs.declared.Shape.{Shape}
-use Rattle.dhcp_message.specs.declared.Shape.TheVariants.{Refused as SRefused, Passed as SPassed}
 use Rattle.dhcp_message.proofs.Tokens.{once, option_none, before_none}
 use Rattle.dhcp_message.proofs.Turns.{head_start}
 use Rattle.dhcp_message.proofs.Found.{place, size, resume, scan_is, place_once, size_once}
 use Rattle.dhcp_message.proofs.Passing.{by_tests, by_tests_lem, shape_in_lem, checks_short, checks_long, checks_cookie, checks_options}
+use Rattle.std.specs.Prelude.{Err, None, Ok, Option, Result, Some}
+use Rattle.dhcp_message.specs.declared.scan.Scanned.{Scanned}
+use Rattle.refusal.specs.declared.Refusal.{Refusal}
+use Rattle.dhcp_message.specs.Scan.{scan_to}
 
 -- ---- checks 5 to 7
 
-module _ (f : Tally) (e : ℕ) where
-  pub found_5 : f.n90 ≡ 0 → SRefused NoAuthentication ≡ shape_found f e
-  unfolding shape_found
-  found_5 h = rw (eq-eqb _ _ h)
-
-  module _ (h₀ : f.n90 ≢ 0) where
-    pub found_6 : 1 < f.n90 → SRefused RepeatedAuthentication ≡ shape_found f e
-    unfolding shape_found
-    found_6 h = rw (ne_eqb _ _ h₀, lt-ltb _ _ h)
-
-    module _ (h₁ : f.n90 ≤ 1) where
-      pub found_plain : f.n82 ≡ 0 → SPassed (record { at = f.at90; cut = e; gap = 0 }) ≡ shape_found f e
-      unfolding shape_found
-      found_plain h = rw (ne_eqb _ _ h₀, le-ltb _ _ h₁, eq-eqb _ _ h)
-
-      module _ (h₂ : f.n82 ≢ 0) where
-        pub found_7 : 1 < f.n82 → SRefused RelayInformation ≡ shape_found f e
-        unfolding shape_found
-        found_7 h = rw (ne_eqb _ _ h₀, le-ltb _ _ h₁, ne_eqb _ _ h₂, lt-ltb _ _ h)
-
-        pub found_one : f.n82 ≤ 1 → SPassed (record { at = f.at90; cut = f.at82; gap = f.size82 }) ≡ shape_found f e
-        unfolding shape_found
-        found_one h = rw (ne_eqb _ _ h₀, le-ltb _ _ h₁, ne_eqb _ _ h₂, le-ltb _ _ h)
-
-abbrev shape_scan : Scan → Shape
-shape_scan SBroken = SRefused BrokenOptions
-shape_scan (SWhole f e) = shape_found f e
+abbrev shape_scan : Option Scanned → Result Places Refusal
+shape_scan None = Err BrokenOptions
+shape_scan (Some a) = shape_found a.found a.end
 
 module _ (ts : List Token) (rest : List ℕ) where
   abbrev places₀ : Places
@@ -80,11 +56,11 @@ module _ (ts : List Token) (rest : List ℕ) where
     gap = size_once 82 ts r 0 i;
   }
 
-  abbrev by_pass : Bool → Bool → Bool → Bool → Shape
+  abbrev by_pass : Bool → Bool → Bool → Bool → Result Places Refusal
   by_pass x y z w =
-      cond x (SRefused NoAuthentication)
-      (cond y (SRefused RepeatedAuthentication)
-      (cond z (SPassed places₀) (cond w (SRefused RelayInformation) (SPassed places₁))))
+      cond x (Err NoAuthentication)
+      (cond y (Err RepeatedAuthentication)
+      (cond z (Ok places₀) (cond w (Err RelayInformation) (Ok places₁))))
 
   found_by : (x y z w : Bool) → eqb (count 90 ts) 0 ≡ x → ltb 1 (count 90 ts) ≡ y → eqb (count 82 ts) 0 ≡ z → ltb 1 (count 82 ts) ≡ w
       → by_pass x y z w ≡ shape_in (by_tests ts rest x y w)
@@ -95,9 +71,9 @@ module _ (ts : List Token) (rest : List ℕ) where
       by : (z w : Bool) → count 90 ts ≡ 1 → eqb (count 82 ts) 0 ≡ z → ltb 1 (count 82 ts) ≡ w
           → by_pass false false z w ≡ shape_in (by_tests ts rest false false w)
       by true true a hz hw = absurd (omega (arith, eqb-true (count 82 ts) 0 hz, ltb-true 1 (count 82 ts) hw))
-      by true false a hz hw = ap SPassed (same_places₀ a (eqb-true (count 82 ts) 0 hz))
+      by true false a hz hw = ap Ok (same_places₀ a (eqb-true (count 82 ts) 0 hz))
       by false true a hz hw = refl
-      by false false a hz hw = ap SPassed (same_places₁ a (once (count 82 ts) (eqb-false (count 82 ts) 0 hz) (ltb-false 1 (count 82 ts) hw)))
+      by false false a hz hw = ap Ok (same_places₁ a (once (count 82 ts) (eqb-false (count 82 ts) 0 hz) (ltb-false 1 (count 82 ts) hw)))
 
   found_tokens : shape_found (resume empty_tally 240 ts) (240 + length (encode ts)) ≡ shape_in (checked_tokens ts rest)
   unfolding shape_found
@@ -111,26 +87,24 @@ shape_scan_lem (parsed ts rest) = ap shape_scan (scan_is ts empty_tally 240) ∙
 -- ---- checks 2 to 7, by the tests of `shape_of`
 
 module _ (m : List ℕ) where
-  pub shape_short : length m < 241 → SRefused MessageSize ≡ shape_of m
-  shape_short h = sym (shape_in_lem m ∙ ap shape_in (checks_short m h))
+  pub shape_size : (length m < 241) ⊎ ((241 ≤ length m) × (1472 < length m)) → Err MessageSize ≡ shape_of m
+  shape_size (inl h) = sym (shape_in_lem m ∙ ap shape_in (checks_short m h))
+  shape_size (inr h) = sym (shape_in_lem m ∙ ap shape_in (checks_long m h.0 h.1))
 
   module _ (h₀ : 241 ≤ length m) where
-    pub shape_long : 1472 < length m → SRefused MessageSize ≡ shape_of m
-    shape_long h = sym (shape_in_lem m ∙ ap shape_in (checks_long m h₀ h))
-
     module _ (h₁ : length m ≤ 1472) (k : Bool) (ek : k ≡ starts magic_cookie (drop 236 m)) where
-      pub shape_cookie : k ≡ false → SRefused WrongCookie ≡ shape_of m
+      pub shape_cookie : k ≡ false → Err WrongCookie ≡ shape_of m
       shape_cookie h = sym (shape_in_lem m ∙ ap shape_in (checks_cookie m h₀ h₁ (sym ek ∙ h)))
 
       module _ (t : k ≡ true) where
         shape_go : shape_scan (scan_of m) ≡ shape_of m
         shape_go =
-            ap shape_scan (sym (head_start m).0)
+            ap shape_scan (sym (head_start m))
             ∙ shape_scan_lem (decode (drop 240 m))
             ∙ sym (shape_in_lem m ∙ ap shape_in (checks_options m h₀ h₁ (sym ek ∙ t)))
 
-        pub shape_broken : SBroken ≡ scan_of m → SRefused BrokenOptions ≡ shape_of m
+        pub shape_broken : None ≡ scan_of m → Err BrokenOptions ≡ shape_of m
         shape_broken e = ap shape_scan e ∙ shape_go
 
-        pub shape_whole : (f : Tally) (e : ℕ) (s : Shape) → SWhole f e ≡ scan_of m → s ≡ shape_found f e → s ≡ shape_of m
+        pub shape_whole : (f : Tally) (e : ℕ) (s : Result Places Refusal) → scan_to f e ≡ scan_of m → s ≡ shape_found f e → s ≡ shape_of m
         shape_whole f e s w j = j ∙ ap shape_scan w ∙ shape_go

@@ -1,61 +1,29 @@
 -- The code's pass over the options, turn by turn: what stands at an offset, what is found with one option more, and the scan's invariant.
 use mathlib.Core.Path.{◌≡◌, refl, sym, ap, ap₂, ◌∙◌, fun_ext}
-use mathlib.Core.Logic.{◌≢◌}
+use mathlib.Core.Logic.{◌≢◌, ◌⊎◌, inl, inr}
 use Prim.Native.Nat.{ℕ, suc, ◌+◌, ◌-◌, ◌≤◌, ◌<◌}
-use native.Mathlib.Numerals.{add-one}
 use native.Mathlib.Omega.{arith}
 use mathlib.Core.Bool.{Bool, true, false, cond}
 use mathlib.Core.List.{List, [], ◌∷◌}
-use lib.ListN.{length, take, drop, get_or, length-drop, drop_of_length-le}
-use lib.Seq.{length-take-le, drop-cons, drop-drop}
+use lib.ListN.{length, take, drop, length-drop, drop_of_length-le}
+use lib.Seq.{length-take-le, drop-drop}
 use lib.Dec.{leb, eqb}
-use borrow.Author.Tests.{le-leb, lt-leb, ne_eqb, eq-eqb, leb-true}
+use borrow.Author.Tests.{ne_eqb, eq-eqb, leb-true}
 use Rattle.dhcp_message.specs.Options.{pad, opt, Parsed, broken, parsed, body, option, code, with_token, step, decode}
-use Rattle.dhcp_message.specs.Standing.{lead_of, here_of, here_at}
+use Rattle.dhcp_message.specs.Standing.{lead_of, here_of, here_at, behind, GivesHere}
+use Rattle.dhcp_message.specs.declared.Options.{Options}
 use Rattle.dhcp_message.specs.Scan.{seen90, seen82, seen_of, scan_parsed, empty_tally, scan_of}
 use Rattle.dhcp_message.specs.declared.Here.{Here}
 use Rattle.dhcp_message.specs.declared.Here.TheVariants.{Broken as HBroken, End as HEnd, Pad as HPad, Opt as HOpt}
 use Rattle.dhcp_message.specs.declared.scan.Tally.{Tally}
-use Rattle.dhcp_message.specs.declared.scan.Scan.TheVariants.{Broken as SBroken, Whole as SWhole}
 use Rattle.dhcp_message.proofs.Decoding.{decode_cons, decode_nil}
+use Rattle.std.specs.Prelude.{None}
+use Rattle.dhcp_message.specs.Scan.{scan_to}
 
--- ---- what stands at an offset, by the tests of `here_at`
-
-module _ (s : List ℕ) (at : ℕ) where
-  pub here_past : length s ≤ at → HBroken ≡ here_at s at
-  unfolding here_at
-  here_past h = rw (drop_of_length-le s h)
-
-  pub here_pad : at < length s → get_or s at 0 ≡ 0 → HPad ≡ here_at s at
-  unfolding here_at
-  here_pad h e = rw (drop-cons s at 0 h, e)
-
-  pub here_end : at < length s → get_or s at 0 ≡ 255 → HEnd ≡ here_at s at
-  unfolding here_at
-  here_end h e = rw (drop-cons s at 0 h, e)
-
-  pub here_short : at < length s → get_or s at 0 ≢ 0 → get_or s at 0 ≢ 255 → length s ≤ at + 1 → HBroken ≡ here_at s at
-  unfolding here_at
-  here_short h z e l = rw (drop-cons s at 0 h, ne_eqb _ _ z, ne_eqb _ _ e, drop_of_length-le s (rw add-one at l))
-
-  pub here_broken : at + 1 < length s → get_or s at 0 ≢ 0 → get_or s at 0 ≢ 255 → length s - (at + 1) ≤ get_or s (at + 1) 0 → HBroken ≡ here_at s at
-  unfolding here_at
-  here_broken h z e l =
-      let h₀ : at < length s = omega arith in
-      let h₁ : suc at < length s = omega arith in
-      let l₀ : length s - suc at ≤ get_or s (suc at) 0 = rw (add-one) at l in
-      let l₁ : length (drop (suc (suc at)) s) < get_or s (suc at) 0 = simp length-drop (omega arith) in
-      rw (drop-cons s at 0 h₀, ne_eqb _ _ z, ne_eqb _ _ e, drop-cons s (suc at) 0 h₁, lt-leb _ _ l₁)
-
-  pub here_opt : at + 1 < length s → get_or s at 0 ≢ 0 → get_or s at 0 ≢ 255 → get_or s (at + 1) 0 < length s - (at + 1)
-      → HOpt (get_or s at 0) (2 + get_or s (at + 1) 0) ≡ here_at s at
-  unfolding here_at
-  here_opt h z e l =
-      let h₀ : at < length s = omega arith in
-      let h₁ : suc at < length s = omega arith in
-      let l₀ : get_or s (suc at) 0 < length s - suc at = rw (add-one) at l in
-      let l₁ : get_or s (suc at) 0 ≤ length (drop (suc (suc at)) s) = simp length-drop (omega arith) in
-      rw (drop-cons s at 0 h₀, ne_eqb _ _ z, ne_eqb _ _ e, drop-cons s (suc at) 0 h₁, le-leb _ _ l₁, length-take-le _ _ l₁, add-one)
+-- nothing stands past the end
+pub here_past : (s : List ℕ) (at : ℕ) → length s ≤ at → HBroken ≡ here_at s at
+unfolding here_at
+here_past s at h = rw (drop_of_length-le s h)
 
 -- ---- reading goes on by what stands in front
 
@@ -121,6 +89,9 @@ within : (m : List ℕ) (at : ℕ) (h : Here) → h ≡ here_at m at → Within 
 unfolding here_at
 within m at h e = rw (e, ← length-drop at m) (within_lead (drop at m))
 
+pub end_fits : (m : List ℕ) (at : ℕ) → HEnd ≡ here_at m at → at + 1 ≤ length m
+end_fits m at e = let w : 1 ≤ length m - at = within m at HEnd e in omega arith
+
 pub pad_fits : (m : List ℕ) (at : ℕ) → HPad ≡ here_at m at → at + 1 ≤ length m
 pad_fits m at e = let w : 1 ≤ length m - at = within m at HPad e in omega arith
 
@@ -178,31 +149,101 @@ module _ (f : Tally) (c at n : ℕ) where
       by false true = omega arith
       by false false = omega arith
 
+-- ---- the options one after another, of a known message
+
+module _ {m : List ℕ} (s : Options) (i : s.message.now ≡ m) where
+  pub none_stands : HBroken ≡ here_at s.message.now s.at → HBroken ≡ here_at m s.at
+  none_stands e = e ∙ ap (λ (x : List ℕ). here_at x s.at) i
+
+  module _ (t : Options) (at : ℕ) (h : Here) (g : GivesHere s at h t) where
+    pub stands : h ≡ here_at m s.at
+    stands = g.stands ∙ ap (λ (x : List ℕ). here_at x s.at) i
+
+    pub next : t.at ≡ behind (length m) s.at h
+    next = g.next ∙ ap (λ (x : List ℕ). behind (length x) s.at h) i
+
+    pub option_fits : {c n : ℕ} → h ≡ HOpt c n → (2 ≤ n) × (at + n ≤ length m)
+    option_fits e = rw g.place (opt_fits m s.at _ _ (sym e ∙ stands))
+
 -- ---- the invariant
 
 -- what is still to be scanned, begun with what was found, gives the whole answer
-abbrev pub Head : List ℕ → Tally → ℕ → Type 0
-Head m f at = (scan_parsed f at (decode (drop at m)) ≡ scan_of m) × ((at ≤ 240 + length m) × ((f.n90 ≤ at) × (f.n82 ≤ at)))
+pub record Scanning (m : List ℕ) (f : Tally) (s : Options) : Type 0 where
+  pub same : s.message.now ≡ m
+  pub whole : scan_parsed f s.at (decode (drop s.at m)) ≡ scan_of m
+  pub within : s.at ≤ 240 + length m
+  pub few90 : f.n90 ≤ s.at
+  pub few82 : f.n82 ≤ s.at
 
-pub head_start : (m : List ℕ) → Head m empty_tally 240
+pub head_start : (m : List ℕ) → scan_parsed empty_tally 240 (decode (drop 240 m)) ≡ scan_of m
 unfolding scan_of
-head_start m = (refl, omega arith)
+head_start m = refl
 
-module _ (m : List ℕ) (f : Tally) (at : ℕ) (h : Head m f at) where
-  pub turn_broken : HBroken ≡ here_at m at → SBroken ≡ scan_of m
-  turn_broken e = sym (ap (scan_parsed f at) (on_here m at HBroken e)) ∙ h.0
+pub scan_start : (m : List ℕ) (s : Options) → s.message.now ≡ m → s.at ≡ 240 → Scanning m empty_tally s
+scan_start m s i e = record {
+  same = i;
+  whole = ap (λ (n : ℕ). scan_parsed empty_tally n (decode (drop n m))) e ∙ head_start m;
+  within = omega arith;
+  few90 = omega arith;
+  few82 = omega arith;
+}
 
-  pub turn_end : HEnd ≡ here_at m at → SWhole f at ≡ scan_of m
-  turn_end e = sym (ap (scan_parsed f at) (on_here m at HEnd e)) ∙ h.0
+module _ {m : List ℕ} {f : Tally} (s : Options) (i : Scanning m f s) where
+  pub turn_none : HBroken ≡ here_at s.message.now s.at → None ≡ scan_of m
+  turn_none e = sym (ap (scan_parsed f s.at) (on_here m s.at HBroken (none_stands s i.same e))) ∙ i.whole
 
-  pub turn_pad : HPad ≡ here_at m at → Head m f (at + 1)
-  turn_pad e =
-      let l = pad_fits m at e in
-      (sym (ap (scan_parsed f at) (on_here m at HPad e) ∙ scan_pad f at (decode (drop (at + 1) m))) ∙ h.0, omega arith)
+  module _ (t : Options) (at : ℕ) (h : Here) (g : GivesHere s at h t) where
+    abbrev here : h ≡ here_at m s.at
+    here = stands s i.same t at h g
 
-  pub turn_opt : (g : Tally) (c n : ℕ) → HOpt c n ≡ here_at m at → g ≡ seen_of f c at n → Head m g (at + n)
-  turn_opt g c n e eg =
-      let l = opt_fits m at c n e in
-      let s = seen_most f c at n in
-      let p = scan_opt f at c (take (n - 2) (drop (at + 2) m)) n (decode (drop (at + n) m)) (body_size m at c n e) in
-      rw eg (sym (ap (scan_parsed f at) (on_here m at (HOpt c n) e) ∙ p) ∙ h.0, (omega arith, (omega arith, omega arith)))
+    pub turn_end : h ≡ HEnd → scan_to f at ≡ scan_of m
+    turn_end e =
+        ap (scan_to f) g.place ∙ sym (ap (scan_parsed f s.at) (on_here m s.at HEnd (sym e ∙ here))) ∙ i.whole
+
+    -- the same was found, and is still to be scanned with the same answer
+    again : scan_parsed f t.at (decode (drop t.at m)) ≡ scan_of m → t.at ≤ 240 + length m → s.at ≤ t.at → Scanning m f t
+    again w l k =
+        let a = i.few90 in
+        let b = i.few82 in
+        record { same = g.same ∙ i.same; whole = w; within = omega arith; few90 = omega arith; few82 = omega arith }
+
+    pub turn_pad : (h ≡ HPad) ⊎ (h ≡ HBroken) → Scanning m f t
+    turn_pad (inl e) =
+        let o = sym e ∙ here in
+        let l = pad_fits m s.at o in
+        let n : t.at ≡ s.at + 1 = rw e at (next s i.same t at h g) in
+        let p = scan_pad f s.at (decode (drop (s.at + 1) m)) in
+        let w = sym (ap (scan_parsed f s.at) (on_here m s.at HPad o) ∙ p) ∙ i.whole in
+        again (rw n w) (omega arith) (omega arith)
+    turn_pad (inr e) =
+        let n : t.at ≡ s.at = rw e at (next s i.same t at h g) in
+        let k = i.within in
+        again (rw n i.whole) (omega arith) (omega arith)
+
+    module _ {c n : ℕ} (e : h ≡ HOpt c n) where
+      abbrev opt_here : HOpt c n ≡ here_at m s.at
+      opt_here = sym e ∙ here
+
+      pub few : (f.n90 < length m) × (f.n82 < length m)
+      few =
+          let l = opt_fits m s.at c n opt_here in
+          let a = i.few90 in
+          let b = i.few82 in
+          omega arith
+
+      pub turn_opt : {v : Tally} → v ≡ seen_of f c at n → Scanning m v t
+      turn_opt {v} ev =
+          let l = opt_fits m s.at c n opt_here in
+          let k : t.at ≡ s.at + n = rw e at (next s i.same t at h g) in
+          let v₁ : v ≡ seen_of f c s.at n = rw g.place at ev in
+          let x = seen_most f c s.at n in
+          let a = i.few90 in
+          let b = i.few82 in
+          let p = scan_opt f s.at c (take (n - 2) (drop (s.at + 2) m)) n (decode (drop (s.at + n) m)) (body_size m s.at c n opt_here) in
+          record {
+            same = g.same ∙ i.same;
+            whole = rw (v₁, k) (sym (ap (scan_parsed f s.at) (on_here m s.at (HOpt c n) opt_here) ∙ p) ∙ i.whole);
+            within = omega arith;
+            few90 = rw v₁ (omega arith);
+            few82 = rw v₁ (omega arith);
+          }

@@ -1,16 +1,17 @@
 -- The code's pass for option 53, turn by turn, and what it finds on tokens: the bodies of the options 53, none, one or more.
-use mathlib.Core.Path.{◌≡◌, refl, sym, ap, ap₂, ◌∙◌}
-use mathlib.Core.Logic.{◌≢◌}
-use Prim.Native.Nat.{ℕ, ◌+◌, ◌-◌, ◌≤◌, ◌<◌}
+use mathlib.Core.Path.{◌≡◌, refl, sym, ap, ◌∙◌}
+use mathlib.Core.Logic.{◌⊎◌, inl, inr}
+use Prim.Native.Nat.{ℕ, ◌+◌, ◌-◌, ◌≤◌}
 use native.Mathlib.Omega.{arith}
 use mathlib.Core.Bool.{Bool, true, false, cond}
 use mathlib.Core.List.{List, [], ◌∷◌, ◌++◌}
-use lib.ListN.{length, take, drop, get_or}
-use lib.Seq.{drop-cons}
+use lib.ListN.{length, take, drop}
 use lib.Dec.{eqb}
-use borrow.Author.Tests.{eq-eqb, ne_eqb}
+use borrow.Author.Tests.{eq-eqb}
 use Rattle.dhcp_message.specs.Options.{Token, pad, opt, Parsed, broken, parsed, with_token, decode}
-use Rattle.dhcp_message.specs.Standing.{here_at}
+use Rattle.dhcp_message.specs.Standing.{here_at, GivesHere}
+use Rattle.dhcp_message.specs.declared.Here.{Here}
+use Rattle.dhcp_message.specs.declared.Options.{Options}
 use Rattle.dhcp_message.specs.Scan.{typed_by, typed_of, typed_from, type_found, typed_parsed}
 use Rattle.octets.specs.Bytes.{Bytes}
 use Rattle.dhcp_message.specs.Message.{count}
@@ -19,54 +20,21 @@ use Rattle.dhcp_message.specs.Types.{bodies_of, stated_by, stated_in, message_ty
 use Rattle.dhcp_message.specs.declared.Here.TheVariants.{Broken as HBroken, End as HEnd, Pad as HPad, Opt as HOpt}
 use Rattle.dhcp_message.specs.declared.types.Typing.{Typing}
 use Rattle.dhcp_message.specs.declared.types.Typing.TheVariants.{NotYet, As, Spoiled}
-use Rattle.dhcp_message.specs.declared.MessageType.{MessageType}
-use Rattle.dhcp_message.specs.declared.MessageType.TheVariants.{Stated, Unstated}
 use Rattle.dhcp_message.proofs.Decoding.{reads_decode}
 use Rattle.dhcp_message.proofs.Tokens.{no_hit, count_split, split}
-use Rattle.dhcp_message.proofs.Turns.{on_here, pad_fits, opt_fits}
+use Rattle.dhcp_message.proofs.Turns.{on_here, none_stands, stands, next, option_fits}
 use Rattle.dhcp_message.proofs.Lowest.{readable}
-
--- ---- one option more
-
-module _ (t : Typing) (c : ℕ) (b : List ℕ) where
-  pub typed_other : c ≢ 53 → t ≡ typed_of t c b
-  unfolding typed_of
-  typed_other n = rw (ne_eqb _ _ n)
-
-  typed_more : c ≡ 53 → typed_of t c b ≡ typed_by t b
-  unfolding typed_of
-  typed_more e = rw (eq-eqb _ _ e)
-
-  pub typed_one : (v : ℕ) → c ≡ 53 → t ≡ NotYet → b ≡ v ∷ [] → As v ≡ typed_of t c b
-  typed_one v e f g = sym (typed_more e ∙ ap₂ typed_by f g)
-
-  pub typed_longer : c ≡ 53 → t ≡ NotYet → length b ≢ 1 → Spoiled ≡ typed_of t c b
-  typed_longer e f n = other b n ∙ sym (typed_more e ∙ ap (λ (u : Typing). typed_by u b) f)
-    where
-      other : (b : List ℕ) → length b ≢ 1 → Spoiled ≡ typed_by NotYet b
-      other [] n = refl
-      other (v ∷ []) n = absurd (n refl)
-      other (v ∷ w ∷ more) n = refl
-
-  pub typed_again : (v : ℕ) → c ≡ 53 → t ≡ As v → Spoiled ≡ typed_of t c b
-  typed_again v e f = sym (typed_more e ∙ ap (λ (u : Typing). typed_by u b) f)
-
-  pub typed_spoiled : c ≡ 53 → t ≡ Spoiled → Spoiled ≡ typed_of t c b
-  typed_spoiled e f = sym (typed_more e ∙ ap (λ (u : Typing). typed_by u b) f)
-
--- the first byte of one
-pub one_byte : (m : List ℕ) (at n : ℕ) → n ≡ 3 → at < length m → take (n - 2) (drop at m) ≡ get_or m at 0 ∷ []
-one_byte m at n e h = rw (e, drop-cons m at 0 h)
+use Rattle.std.specs.Prelude.{None, Option, Some, ℕ}
 
 -- ---- what is found of all tokens
 
-spoiled : (ts : List Token) → type_found (typed_from Spoiled ts) ≡ Unstated
+spoiled : (ts : List Token) → type_found (typed_from Spoiled ts) ≡ None
 unfolding type_found typed_of
 spoiled [] = refl
 spoiled (pad ∷ ts) = spoiled ts
 spoiled (opt c b ∷ ts) = by (eqb c 53) (spoiled ts)
   where
-    by : (x : Bool) → type_found (typed_from Spoiled ts) ≡ Unstated → type_found (typed_from (cond x (typed_by Spoiled b) Spoiled) ts) ≡ Unstated
+    by : (x : Bool) → type_found (typed_from Spoiled ts) ≡ None → type_found (typed_from (cond x (typed_by Spoiled b) Spoiled) ts) ≡ None
     by true h = h
     by false h = h
 
@@ -105,34 +73,54 @@ typed_opt t c b broken = refl
 typed_opt t c b (parsed ts rest) = refl
 
 -- what is still to be read, begun with what was found, gives the whole answer
-abbrev pub Typed : List ℕ → Typing → ℕ → Type 0
-Typed m t at = (typed_parsed t (decode (drop at m)) ≡ message_type_of m) × (at ≤ 240 + length m)
+pub record Typed (m : List ℕ) (t : Typing) (s : Options) : Type 0 where
+  pub same : s.message.now ≡ m
+  pub whole : typed_parsed t (decode (drop s.at m)) ≡ message_type_of m
 
-pub typed_start : (m : List ℕ) → Typed m NotYet 240
+pub typed_start : (m : List ℕ) (s : Options) → s.message.now ≡ m → s.at ≡ 240 → Typed m NotYet s
 unfolding message_type_of
-typed_start m = (by (decode (drop 240 m)), omega arith)
+typed_start m s i e = record { same = i; whole = ap (λ (n : ℕ). typed_parsed NotYet (decode (drop n m))) e ∙ by (decode (drop 240 m)) }
   where
     by : (p : Parsed) → typed_parsed NotYet p ≡ stated_in p
     by broken = refl
     by (parsed ts rest) = seen_none ts
 
-module _ (m : List ℕ) (t : Typing) (at : ℕ) (h : Typed m t at) where
-  pub type_broken : HBroken ≡ here_at m at → Unstated ≡ message_type_of m
-  type_broken e = sym (ap (typed_parsed t) (on_here m at HBroken e)) ∙ h.0
+module _ {m : List ℕ} {t : Typing} (s : Options) (i : Typed m t s) where
+  pub type_none : HBroken ≡ here_at s.message.now s.at → None ≡ message_type_of m
+  type_none e = sym (ap (typed_parsed t) (on_here m s.at HBroken (none_stands s i.same e))) ∙ i.whole
 
-  pub type_end : (r : MessageType) → HEnd ≡ here_at m at → r ≡ type_found t → r ≡ message_type_of m
-  type_end r e f = f ∙ sym (ap (typed_parsed t) (on_here m at HEnd e)) ∙ h.0
+  module _ (u : Options) (at : ℕ) (h : Here) (g : GivesHere s at h u) where
+    abbrev here : h ≡ here_at m s.at
+    here = stands s i.same u at h g
 
-  pub type_pad : HPad ≡ here_at m at → Typed m t (at + 1)
-  type_pad e =
-      let l = pad_fits m at e in
-      (sym (ap (typed_parsed t) (on_here m at HPad e) ∙ typed_pad t (decode (drop (at + 1) m))) ∙ h.0, omega arith)
+    pub type_end : {r : Option ℕ} → h ≡ HEnd → r ≡ type_found t → r ≡ message_type_of m
+    type_end e f = f ∙ sym (ap (typed_parsed t) (on_here m s.at HEnd (sym e ∙ here))) ∙ i.whole
 
-  pub type_opt : (u : Typing) (c n : ℕ) → HOpt c n ≡ here_at m at → u ≡ typed_of t c (take (n - 2) (drop (at + 2) m)) → Typed m u (at + n)
-  type_opt u c n e g =
-      let l = opt_fits m at c n e in
-      rw g
-      (sym (ap (typed_parsed t) (on_here m at (HOpt c n) e) ∙ typed_opt t c (take (n - 2) (drop (at + 2) m)) (decode (drop (at + n) m))) ∙ h.0, omega arith)
+    pub type_pad : (h ≡ HPad) ⊎ (h ≡ HBroken) → Typed m t u
+    type_pad (inl e) =
+        let n : u.at ≡ s.at + 1 = rw e at (next s i.same u at h g) in
+        let p = typed_pad t (decode (drop (s.at + 1) m)) in
+        record { same = g.same ∙ i.same; whole = rw n (sym (ap (typed_parsed t) (on_here m s.at HPad (sym e ∙ here)) ∙ p) ∙ i.whole) }
+    type_pad (inr e) =
+        let n : u.at ≡ s.at = rw e at (next s i.same u at h g) in
+        record { same = g.same ∙ i.same; whole = rw n i.whole }
+
+    module _ {c n : ℕ} (e : h ≡ HOpt c n) where
+      abbrev opt_here : HOpt c n ≡ here_at m s.at
+      opt_here = sym e ∙ here
+
+      pub type_fits : (2 ≤ n) × (at + n ≤ length m)
+      type_fits = option_fits s i.same u at h g e
+
+      pub type_opt : {v : Typing} → v ≡ typed_of t c (take (n - 2) (drop (at + 2) m)) → Typed m v u
+      type_opt {v} f =
+          let k : u.at ≡ s.at + n = rw e at (next s i.same u at h g) in
+          let w : v ≡ typed_of t c (take (n - 2) (drop (s.at + 2) m)) = rw g.place at f in
+          let p = typed_opt t c (take (n - 2) (drop (s.at + 2) m)) (decode (drop (s.at + n) m)) in
+          record {
+            same = g.same ∙ i.same;
+            whole = rw (w, k) (sym (ap (typed_parsed t) (on_here m s.at (HOpt c n) opt_here) ∙ p) ∙ i.whole);
+          }
 
 -- ---- what is stated, in the rules' words
 
@@ -172,7 +160,7 @@ module _ (c : ℕ) where
       ∙ rw (bodies_none p front, eq-eqb c c refl, bodies_none q back)
 
 -- what states a type is one body of one byte
-stated_one : (bodies : List (List ℕ)) (v : ℕ) → stated_by bodies ≡ Stated v → bodies ≡ (v ∷ []) ∷ []
+stated_one : (bodies : List (List ℕ)) (v : ℕ) → stated_by bodies ≡ Some v → bodies ≡ (v ∷ []) ∷ []
 stated_one [] v e = let z : ◌≡◌ {A = ℕ} 0 1 = cc in absurd (omega arith)
 stated_one ([] ∷ bodies) v e = let z : ◌≡◌ {A = ℕ} 0 1 = cc in absurd (omega arith)
 stated_one ((w ∷ []) ∷ []) v e = let z : w ≡ v = cc in ap (λ (x : ℕ). (x ∷ []) ∷ []) z
@@ -183,7 +171,7 @@ module _ (m : List ℕ) (v : ℕ) where
   abbrev OneType : List Token → Type 0
   OneType ts = (count 53 ts ≡ 1) × Has 53 (λ body. body ≡ v ∷ []) ts
 
-  one_type : (ts : List Token) → stated_by (bodies_of 53 ts) ≡ Stated v → OneType ts
+  one_type : (ts : List Token) → stated_by (bodies_of 53 ts) ≡ Some v → OneType ts
   one_type ts e =
       let bodies = stated_one (bodies_of 53 ts) v e in
       let one : count 53 ts ≡ 1 = bodies_counted 53 ts ∙ ap length bodies in
@@ -192,15 +180,15 @@ module _ (m : List ℕ) (v : ℕ) where
       let body : s.body ≡ v ∷ [] = cc in
       (one, record { front = s.front; body = s.body; back = s.back; splits = s.tokens; holds = body })
 
-  states : Bytes m → message_type_of m ≡ Stated v → WhereRead OneType m
+  states : Bytes m → message_type_of m ≡ Some v → WhereRead OneType m
   unfolding message_type_of
   states b e = by (decode (drop 240 m)) refl e
     where
-      by : (p : Parsed) → decode (drop 240 m) ≡ p → stated_in p ≡ Stated v → WhereRead OneType m
+      by : (p : Parsed) → decode (drop 240 m) ≡ p → stated_in p ≡ Some v → WhereRead OneType m
       by broken f e = let z : ◌≡◌ {A = ℕ} 0 1 = cc in absurd (omega arith)
       by (parsed ts rest) f e = readable m b ts rest f (one_type ts e)
 
-  stated_so : WhereRead OneType m → message_type_of m ≡ Stated v
+  stated_so : WhereRead OneType m → message_type_of m ≡ Some v
   unfolding message_type_of
   stated_so r =
       let has = r.holds.1 in

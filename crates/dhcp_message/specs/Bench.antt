@@ -1,6 +1,6 @@
 -- Bench examples 3 to 7 (docs/RULES.md, 'Bench examples'): from example 4 on a message is 236 zeros, the cookie and the named options. Then a
 -- message whose bytes differ, with all that is read from it and written over it as bytes, so that every offset, size and code shows.
-use Rattle.std.specs.Prelude.{ℕ, ◌≡◌, ◌≢◌, List, [], ◌∷◌, ◌++◌}
+use Rattle.std.specs.Prelude.{ℕ, ◌≡◌, ◌≢◌, List, [], ◌∷◌, ◌++◌, None, Ok, Option, Some}
 use Rattle.octets.specs.Bytes.{zeros, up_from}
 use Rattle.dhcp_message.specs.Layout.{cookie_at, magic_cookie}
 use Rattle.dhcp_message.specs.Said.{says, said_of, form_of, form_number}
@@ -11,10 +11,7 @@ use Rattle.dhcp_message.specs.Types.{message_type_of}
 use Rattle.dhcp_message.specs.Relay.{RelayBody, Permitted, Relayed}
 use Rattle.dhcp_message.specs.Seal.{fields_put, mac_put, sealed_with}
 use Rattle.dhcp_message.specs.declared.Auth.{Auth}
-use Rattle.dhcp_message.specs.declared.Form.TheVariants.{Full}
-use Rattle.dhcp_message.specs.declared.scan.Scan.TheVariants.{Whole}
-use Rattle.dhcp_message.specs.declared.Shape.TheVariants.{Passed}
-use Rattle.dhcp_message.specs.declared.MessageType.TheVariants.{Stated, Unstated}
+use Rattle.dhcp_message.specs.Scan.{scan_to}
 
 abbrev pub message_of : List ℕ → List ℕ
 message_of options = zeros cookie_at ++ (magic_cookie ++ options)
@@ -83,37 +80,37 @@ abbrev pub distinct_image : List ℕ
 distinct_image = headed_by 0 (zeros 4) (options_with [] (up_from 201 12 ++ zeros 16) [])
 
 -- how many bytes `cover` writes for these offsets in 40 bytes
-abbrev pub covered_of40 : ℕ → ℕ → ℕ → ℕ
+abbrev pub covered_of40 : ℕ → ℕ → ℕ → Option ℕ
 covered_of40 at cut gap = cover_size (zeros 40) (record { at = at; counter = 0; id = 0; cut = cut; gap = gap }) (zeros 40)
 
 -- Every number of Layout by what it does to these bytes: another one gives something else here, or in `BenchExamples` (1,472). Nothing is said
 -- through Layout's names.
 pub record LayoutPinned : Type 0 where
-  pub form : form_of distinct ≡ Full distinct_auth
-  pub scanned : scan_of distinct ≡ Whole (record { n90 = 1; at90 = 246; n82 = 1; at82 = 279; size82 = 4 }) 284
+  pub form : form_of distinct ≡ Ok distinct_auth
+  pub scanned : scan_of distinct ≡ scan_to (record { n90 = 1; at90 = 246; n82 = 1; at82 = 279; size82 = 4 }) 284
   pub said : said_of distinct ≡ says 0xc9ca_cbcc_cdce_cfd0 0xd1d2_d3d4 (up_from 213 16)
   pub image : image_of distinct ≡ distinct_image
   -- an option 90 in full form takes 33 bytes, right before option 82 or right behind it; a byte less before or behind that, or up to the end, is too
   -- few
-  pub covers_before : covered_of40 0 33 7 ≡ 33
-  pub covers_into : covered_of40 0 32 7 ≡ 0
-  pub covers_behind : covered_of40 7 0 7 ≡ 33
-  pub covers_out_of : covered_of40 6 0 7 ≡ 0
-  pub covers_past_the_end : covered_of40 8 0 7 ≡ 0
+  pub covers_before : covered_of40 0 33 7 ≡ Some 33
+  pub covers_into : covered_of40 0 32 7 ≡ None
+  pub covers_behind : covered_of40 7 0 7 ≡ Some 33
+  pub covers_out_of : covered_of40 6 0 7 ≡ None
+  pub covers_past_the_end : covered_of40 8 0 7 ≡ None
   -- what stands before: checks 2 to 7 alone
-  pub shape : shape_of distinct ≡ Passed (record { at = 246; cut = 279; gap = 4 })
+  pub shape : shape_of distinct ≡ Ok (record { at = 246; cut = 279; gap = 4 })
   -- the message type: one option 53 of one byte states it, wherever it stands; two, or one of another size, state nothing
-  pub type_stated : message_type_of (distinct_of (12 ∷ 1 ∷ 53 ∷ 0 ∷ 53 ∷ 1 ∷ 9 ∷ 90 ∷ 0 ∷ 255 ∷ [])) ≡ Stated 9
-  pub type_twice : message_type_of (distinct_of (53 ∷ 1 ∷ 5 ∷ 53 ∷ 1 ∷ 5 ∷ 255 ∷ [])) ≡ Unstated
-  pub type_longer : message_type_of (distinct_of (53 ∷ 2 ∷ 5 ∷ 5 ∷ 255 ∷ [])) ≡ Unstated
-  pub type_empty : message_type_of (distinct_of (53 ∷ 0 ∷ 255 ∷ [])) ≡ Unstated
-  pub type_missing : message_type_of (distinct_of (12 ∷ 1 ∷ 53 ∷ 255 ∷ [])) ≡ Unstated
+  pub type_stated : message_type_of (distinct_of (12 ∷ 1 ∷ 53 ∷ 0 ∷ 53 ∷ 1 ∷ 9 ∷ 90 ∷ 0 ∷ 255 ∷ [])) ≡ Some 9
+  pub type_twice : message_type_of (distinct_of (53 ∷ 1 ∷ 5 ∷ 53 ∷ 1 ∷ 5 ∷ 255 ∷ [])) ≡ None
+  pub type_longer : message_type_of (distinct_of (53 ∷ 2 ∷ 5 ∷ 5 ∷ 255 ∷ [])) ≡ None
+  pub type_empty : message_type_of (distinct_of (53 ∷ 0 ∷ 255 ∷ [])) ≡ None
+  pub type_missing : message_type_of (distinct_of (12 ∷ 1 ∷ 53 ∷ 255 ∷ [])) ≡ None
   -- what a seal writes, and where
   pub fields_put_lem : fields_put (zeros 28) 0xc9ca_cbcc_cdce_cfd0 0xd1d2_d3d4 ≡ up_from 201 12 ++ zeros 16
   pub mac_put_lem : mac_put (zeros 28) (up_from 213 16) ≡ zeros 12 ++ up_from 213 16
   pub sealed : sealed_with distinct_auth (up_from 101 28) distinct ≡ distinct_of (options_with [] (up_from 101 28) some_relay)
   -- the same where option 82 stands before option 90
-  pub early_form : form_of early ≡ Full early_auth
+  pub early_form : form_of early ≡ Ok early_auth
   pub early_image : image_of early ≡ distinct_image
   pub early_covered : cover_left early early_auth (zeros 290) ≡ distinct_image ++ zeros 7
   pub early_sealed : sealed_with early_auth (up_from 101 28) early ≡ distinct_of (options_with some_relay (up_from 101 28) [])

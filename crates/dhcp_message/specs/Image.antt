@@ -2,7 +2,7 @@
 -- the MAC zero, the whole of option 82 taken out, everything else in its order, the bytes after End with it. A relay agent sets hops and giaddr, and
 -- adds option 82 and takes it out again, so sender and receiver don't see the same ones: the MAC has to leave them out (RFC 3118, section 3).
 -- Then what `cover` writes for any offsets and any room.
-use Rattle.std.specs.Prelude.{ℕ, ◌+◌, ◌-◌, Bool, cond, ◌&&◌, ◌||◌, List, [], ◌∷◌, ◌++◌, length, take, drop, leb, ltb, eqb}
+use Rattle.std.specs.Prelude.{ℕ, ◌+◌, ◌-◌, Bool, cond, ◌&&◌, ◌||◌, List, [], ◌∷◌, ◌++◌, length, take, drop, leb, ltb, eqb, None, Option, Some}
 use Rattle.dhcp_message.specs.Layout.{header_size, hops_at, hops_size, giaddr_at, giaddr_size, end_code, relay_code, auth_code, option_head}
 use Rattle.dhcp_message.specs.Layout.{mac_at, mac_size, full_size}
 use Rattle.octets.specs.Bytes.{written, zeros}
@@ -56,9 +56,9 @@ image_at a = cond (ltb a.at a.cut) a.at (a.at - a.gap)
 unfoldable pub cover_bytes : List ℕ → Auth → List ℕ
 cover_bytes m a = written (image_at a + mac_at) (zeros mac_size) (head_zero (take a.cut m ++ drop (a.cut + a.gap) m))
 
--- what `cover` returns: how many bytes it wrote, 0 where something doesn't fit
-unfoldable pub cover_size : List ℕ → Auth → List ℕ → ℕ
-cover_size m a out = cond (cover_fits (length m) (length out) a) (length m - a.gap) 0
+-- what `cover` returns: how many bytes it wrote, None where something doesn't fit
+unfoldable pub cover_size : List ℕ → Auth → List ℕ → Option ℕ
+cover_size m a out = cond (cover_fits (length m) (length out) a) (Some (length m - a.gap)) None
 
 -- what it leaves: those bytes in front, the rest as it was
 unfoldable pub cover_left : List ℕ → Auth → List ℕ → List ℕ

@@ -1,6 +1,6 @@
 -- Numbers 2 to 9 in the words of docs/RULES.md ('Numbers'), and the statement that a message is refused with the lowest number that applies, and
 -- with none otherwise.
-use Rattle.std.specs.Prelude.{ℕ, ◌+◌, ◌<◌, ◌≡◌, ◌≢◌, ◌⊎◌, ◌↔◌, List, ◌∷◌, ◌++◌, length, take, drop}
+use Rattle.std.specs.Prelude.{ℕ, ◌+◌, ◌<◌, ◌≡◌, ◌≢◌, ◌⊎◌, ◌↔◌, List, ◌∷◌, ◌++◌, length, take, drop, Err, Ok}
 use Rattle.refusal.specs.Number.{number_of}
 use Rattle.refusal.specs.Lowest.{NothingBelow, Lowest}
 use Rattle.refusal.specs.declared.Refusal.{Refusal}
@@ -14,9 +14,7 @@ use Rattle.dhcp_message.specs.Message.{count, Passes27}
 use Rattle.dhcp_message.specs.Shape.{shape_of}
 use Rattle.dhcp_message.specs.Said.{form_of, form_number}
 use Rattle.dhcp_message.specs.declared.Auth.{Auth}
-use Rattle.dhcp_message.specs.declared.Form.TheVariants.{Refused, Full}
 use Rattle.dhcp_message.specs.declared.Places.{Places}
-use Rattle.dhcp_message.specs.declared.Shape.TheVariants.{Refused as ShapeRefused, Passed as ShapePassed}
 
 -- the options can be read, and what they read as has a property
 pub record WhereRead (P : List Token → Type 0) (m : List ℕ) : Type 0 where
@@ -61,8 +59,8 @@ pub data Applies (m : List ℕ) : Refusal → Type 0 where
 -- 2 to 7 where none of these applies
 pub record LowestGiven : Type 0 where
   pub number : (m : List ℕ) → Bytes m → Lowest (Applies m) (form_number (form_of m))
-  pub refused : (m : List ℕ) → Bytes m → (r : Refusal) → (form_of m ≡ Refused r) ↔ (Applies m r × NothingBelow (Applies m) (number_of r))
-  pub full : (m : List ℕ) → Bytes m → ((a : Auth) × (form_of m ≡ Full a)) ↔ ((r : Refusal) → Applies m r → ⊥)
+  pub refused : (m : List ℕ) → Bytes m → (r : Refusal) → (form_of m ≡ Err r) ↔ (Applies m r × NothingBelow (Applies m) (number_of r))
+  pub full : (m : List ℕ) → Bytes m → ((a : Auth) × (form_of m ≡ Ok a)) ↔ ((r : Refusal) → Applies m r → ⊥)
   pub passes : (m : List ℕ) → Bytes m → Passes27 m ↔ NothingBelow (Applies m) (number_of OtherAuthentication)
 
 -- an option of code c stands at this offset of the message
@@ -82,8 +80,8 @@ pub data RelayAt (cut gap : ℕ) (tokens : List Token) : Type 0 where
 -- stands where it is said to stand, and so does its option 82, if it has one
 pub record ShapeGiven : Type 0 where
   pub refused : (m : List ℕ) → Bytes m → (r : Refusal)
-      → (shape_of m ≡ ShapeRefused r) ↔ (Applies m r × NothingBelow (Applies m) (number_of r) × (number_of r < number_of OtherAuthentication))
-  pub passed : (m : List ℕ) → Bytes m → ((p : Places) × (shape_of m ≡ ShapePassed p)) ↔ NothingBelow (Applies m) (number_of OtherAuthentication)
-  pub stands : (m : List ℕ) → Bytes m → (p : Places) → shape_of m ≡ ShapePassed p
+      → (shape_of m ≡ Err r) ↔ (Applies m r × NothingBelow (Applies m) (number_of r) × (number_of r < number_of OtherAuthentication))
+  pub passed : (m : List ℕ) → Bytes m → ((p : Places) × (shape_of m ≡ Ok p)) ↔ NothingBelow (Applies m) (number_of OtherAuthentication)
+  pub stands : (m : List ℕ) → Bytes m → (p : Places) → shape_of m ≡ Ok p
       → WhereRead (λ ts. (count auth_code ts ≡ 1) × StandsAt auth_code p.at ts) m
-  pub relay : (m : List ℕ) → Bytes m → (p : Places) → shape_of m ≡ ShapePassed p → WhereRead (RelayAt p.cut p.gap) m
+  pub relay : (m : List ℕ) → Bytes m → (p : Places) → shape_of m ≡ Ok p → WhereRead (RelayAt p.cut p.gap) m

@@ -1,7 +1,6 @@
 -- What a message says to delayed authentication (RFC 3118, section 5): a refusal of 2 to 9, or counter, secret id and MAC. It is read off
 -- option 90's own bytes and does not depend on where that option stands. `form_of` adds where it stands, for the code that goes on.
-use Rattle.std.specs.Prelude.{ℕ, ◌+◌, ◌≡◌, Bool, true, false, cond, List, take, drop, get_or, eqb}
-use Rattle.std.proofs.Math.Option.{Option, none, some}
+use Rattle.std.specs.Prelude.{ℕ, ◌+◌, ◌≡◌, Bool, true, false, cond, List, take, drop, get_or, eqb, Err, None, Ok, Option, Result, Some}
 use Rattle.refusal.specs.Number.{number_of, done}
 use Rattle.refusal.specs.declared.Refusal.{Refusal}
 use Rattle.refusal.specs.declared.Refusal.TheVariants.{OtherAuthentication, RequestForm}
@@ -13,8 +12,6 @@ use Rattle.dhcp_message.specs.Message.{option_of, Checked, stopped, passed, chec
 use Rattle.dhcp_message.specs.Shape.{places_of}
 use Rattle.dhcp_message.specs.declared.Places.{Places}
 use Rattle.dhcp_message.specs.declared.Auth.{Auth}
-use Rattle.dhcp_message.specs.declared.Form.{Form}
-use Rattle.dhcp_message.specs.declared.Form.TheVariants.{Refused, Full}
 
 pub data Said : Type 0 where
   refused : Refusal → Said
@@ -44,8 +41,8 @@ said_of m = said_in (checked_of m)
 
 -- the secret id that a check names: exactly where the message passes 2 to 9
 abbrev pub id_of : Said → Option ℕ
-id_of (refused r) = none
-id_of (says counter id mac) = some id
+id_of (refused r) = None
+id_of (says counter id mac) = Some id
 
 unfoldable pub named : List ℕ → Option ℕ
 named m = id_of (said_of m)
@@ -53,35 +50,35 @@ named m = id_of (said_of m)
 abbrev pub auth_of : Places → ℕ → ℕ → Auth
 auth_of p counter id = record { at = p.at; counter = counter; id = id; cut = p.cut; gap = p.gap }
 
-abbrev pub form_said : Places → Said → Form
-form_said p (refused r) = Refused r
-form_said p (says counter id mac) = Full (auth_of p counter id)
+abbrev pub form_said : Places → Said → Result Auth Refusal
+form_said p (refused r) = Err r
+form_said p (says counter id mac) = Ok (auth_of p counter id)
 
-abbrev pub form_in : Checked → Form
-form_in (stopped r) = Refused r
+abbrev pub form_in : Checked → Result Auth Refusal
+form_in (stopped r) = Err r
 form_in (passed ts rest) = form_said (places_of ts) (said_by (option_of auth_code ts))
 
 -- the lowest of 2 to 9 that applies, or what the full form says and where
-unfoldable pub form_of : List ℕ → Form
+unfoldable pub form_of : List ℕ → Result Auth Refusal
 form_of m = form_in (checked_of m)
 
 -- the number of a form: that of its refusal, or 0
-abbrev pub form_number : Form → ℕ
-form_number (Refused r) = number_of r
-form_number (Full a) = done
+abbrev pub form_number : Result Auth Refusal → ℕ
+form_number (Err r) = number_of r
+form_number (Ok a) = done
 
 -- what a form says of a message: counter and id as they stand there, and the 16 bytes of the MAC
-abbrev pub form_says : List ℕ → Form → Said
-form_says m (Refused r) = refused r
-form_says m (Full a) = says a.counter a.id (take mac_size (drop (a.at + mac_at) m))
+abbrev pub form_says : List ℕ → Result Auth Refusal → Said
+form_says m (Err r) = refused r
+form_says m (Ok a) = says a.counter a.id (take mac_size (drop (a.at + mac_at) m))
 
-abbrev pub form_names : Form → Option ℕ
-form_names (Refused r) = none
-form_names (Full a) = some a.id
+abbrev pub form_names : Result Auth Refusal → Option ℕ
+form_names (Err r) = None
+form_names (Ok a) = Some a.id
 
 -- what a message says, and the secret it names, is what is found in it
 pub record FormSays : Type 0 where
   pub said : (m : List ℕ) → said_of m ≡ form_says m (form_of m)
   pub name : (m : List ℕ) → named m ≡ form_names (form_of m)
-  pub counter_there : (m : List ℕ) (a : Auth) → form_of m ≡ Full a → a.counter ≡ big_at m (a.at + counter_at) counter_size
-  pub id_there : (m : List ℕ) (a : Auth) → form_of m ≡ Full a → a.id ≡ big_at m (a.at + secret_id_at) secret_id_size
+  pub counter_there : (m : List ℕ) (a : Auth) → form_of m ≡ Ok a → a.counter ≡ big_at m (a.at + counter_at) counter_size
+  pub id_there : (m : List ℕ) (a : Auth) → form_of m ≡ Ok a → a.id ≡ big_at m (a.at + secret_id_at) secret_id_size

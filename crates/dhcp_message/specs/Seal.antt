@@ -1,6 +1,6 @@
 -- What a seal writes (docs/RULES.md, 'Seal'): counter, secret id and MAC over the 28 bytes of option 90 that hold them; what the
 -- two writers leave in a part of a message; and what holds of a message that was written so.
-use Rattle.std.specs.Prelude.{ℕ, ◌+◌, ◌-◌, ◌^◌, ◌<◌, ◌≤◌, ◌≡◌, cond, List, ◌++◌, length, take, drop, eqb}
+use Rattle.std.specs.Prelude.{ℕ, ◌+◌, ◌-◌, ◌^◌, ◌<◌, ◌≤◌, ◌≡◌, cond, List, ◌++◌, length, take, drop, eqb, Ok, Some}
 use Rattle.dhcp_message.specs.Layout.{message_least, message_most, header_size, counter_at, counter_size, secret_id_size}
 use Rattle.dhcp_message.specs.Layout.{mac_at, mac_size, fields_size, seal_size, full_size}
 use Rattle.octets.specs.Bytes.{Bytes, written}
@@ -9,7 +9,6 @@ use Rattle.dhcp_message.specs.Message.{Passes27}
 use Rattle.dhcp_message.specs.Said.{says, said_of, form_of}
 use Rattle.dhcp_message.specs.Image.{image_of, cover_size, cover_left}
 use Rattle.dhcp_message.specs.declared.Auth.{Auth}
-use Rattle.dhcp_message.specs.declared.Form.TheVariants.{Full}
 
 -- counter and id as they stand in option 90
 abbrev pub fields : ℕ → ℕ → List ℕ
@@ -45,7 +44,7 @@ pub record FullForm (m : List ℕ) (a : Auth) : Type 0 where
 
 -- what holds of the message with these bytes new: the seal's are counter, id and MAC one after another
 pub record Rewritten (m : List ℕ) (a : Auth) (new : List ℕ) : Type 0 where
-  pub form : form_of (sealed_with a new m) ≡ Full (with_fields a (big_at new 0 counter_size) (big_at new counter_size secret_id_size))
+  pub form : form_of (sealed_with a new m) ≡ Ok (with_fields a (big_at new 0 counter_size) (big_at new counter_size secret_id_size))
   pub said : said_of (sealed_with a new m) ≡ says (big_at new 0 counter_size) (big_at new counter_size secret_id_size) (drop fields_size new)
   pub size : length (sealed_with a new m) ≡ length m
   pub image : (other : List ℕ) → length other ≡ seal_size → take fields_size new ≡ take fields_size other
@@ -54,16 +53,16 @@ pub record Rewritten (m : List ℕ) (a : Auth) (new : List ℕ) : Type 0 where
 
 -- what the crate above goes by
 pub record SealLaws : Type 0 where
-  pub full : (m : List ℕ) (a : Auth) → form_of m ≡ Full a → FullForm m a
+  pub full : (m : List ℕ) (a : Auth) → form_of m ≡ Ok a → FullForm m a
   -- `cover` writes the image, and goes by the offsets alone
-  pub covers : (m : List ℕ) (a : Auth) (out : List ℕ) → form_of m ≡ Full a → length m ≤ length out
-      → (cover_size m a out ≡ length (image_of m)) × (cover_left m a out ≡ image_of m ++ drop (length (image_of m)) out)
+  pub covers : (m : List ℕ) (a : Auth) (out : List ℕ) → form_of m ≡ Ok a → length m ≤ length out
+      → (cover_size m a out ≡ Some (length (image_of m))) × (cover_left m a out ≡ image_of m ++ drop (length (image_of m)) out)
   pub covers_offsets : (m : List ℕ) (a : Auth) (counter id : ℕ) (out : List ℕ)
       → (cover_size m (with_fields a counter id) out ≡ cover_size m a out) × (cover_left m (with_fields a counter id) out ≡ cover_left m a out)
-  pub seals : (m : List ℕ) (a : Auth) (new : List ℕ) → form_of m ≡ Full a → length new ≡ seal_size → Rewritten m a new
+  pub seals : (m : List ℕ) (a : Auth) (new : List ℕ) → form_of m ≡ Ok a → length new ≡ seal_size → Rewritten m a new
   -- counter, id and MAC take the 28 bytes, and whatever MAC stands there, the image is the same
   pub seal_size_lem : (counter id : ℕ) (mac : List ℕ) → length mac ≡ mac_size → length (fields counter id ++ mac) ≡ seal_size
-  pub any_mac : (m : List ℕ) (a : Auth) (counter id : ℕ) (mac other : List ℕ) → form_of m ≡ Full a → length mac ≡ mac_size → length other ≡ mac_size
+  pub any_mac : (m : List ℕ) (a : Auth) (counter id : ℕ) (mac other : List ℕ) → form_of m ≡ Ok a → length mac ≡ mac_size → length other ≡ mac_size
       → image_of (sealed_with a (fields counter id ++ mac) m) ≡ image_of (sealed_with a (fields counter id ++ other) m)
   pub counter_read : (counter id : ℕ) (mac : List ℕ) → counter < 2 ^ 64 → big_at (fields counter id ++ mac) 0 counter_size ≡ counter
   pub id_read : (counter id : ℕ) (mac : List ℕ) → id < 2 ^ 32 → big_at (fields counter id ++ mac) counter_size secret_id_size ≡ id

@@ -9,65 +9,48 @@ use crate::layout::{
     PROTOCOL_AT, REPLAY_METHOD, REPLAY_METHOD_AT, REQUEST_LENGTH, SECRET_ID_AT, SECRET_ID_SIZE,
 };
 use crate::scan::shape_of;
-use crate::{Auth, Form, Places, Shape};
+use crate::{Auth, Places};
 use refusal::Refusal;
 
 // Whether an option 90 has this protocol, this algorithm and this replay method.
+#[tactic(auto, using(crate::proofs::Forms::method_past))]
 pub fn has_method(message: &[u8], at: usize, protocol: u8, algorithm: u8, replay: u8) -> bool
     ensures { result ≡ starts (protocol ∷ algorithm ∷ replay ∷ []) (drop (at + method_at) message.now) }
 {
-    if message.len() < COUNTER_AT {
+    if message.len() < COUNTER_AT || message.len() - COUNTER_AT < at {
         return false;
     }
-    if message.len() - COUNTER_AT < at {
-        return false;
-    }
-    if message[at + PROTOCOL_AT] != protocol {
-        return false;
-    }
-    if message[at + ALGORITHM_AT] != algorithm {
-        return false;
-    }
-    message[at + REPLAY_METHOD_AT] == replay
+    message[at + PROTOCOL_AT] == protocol
+        && message[at + ALGORITHM_AT] == algorithm
+        && message[at + REPLAY_METHOD_AT] == replay
 }
 
 // Checks 8 and 9, of an option 90 that is whole.
-fn form_at(message: &[u8], p: Places) -> Form
+fn form_at(message: &[u8], p: Places) -> Result<Auth, Refusal>
     requires { p.at + option_head + get_or message.now (p.at + length_at) 0 ≤ length message.now }
     ensures { result ≡ form_said p (said_by (drop p.at message.now)) }
 {
-    let at = p.at;
-    let len = message[at + LENGTH_AT];
-    if len == FULL_LENGTH {
-        if has_method(message, at, PROTOCOL, ALGORITHM, REPLAY_METHOD) {
-            let counter = octets::big(message, at + COUNTER_AT, COUNTER_SIZE);
-            let id = octets::big(message, at + SECRET_ID_AT, SECRET_ID_SIZE) as u32;
-            return Form::Full(Auth {
-                at,
-                counter,
-                id,
-                cut: p.cut,
-                gap: p.gap,
-            });
-        }
-        return Form::Refused(Refusal::OtherAuthentication);
+    let Places { at, cut, gap } = p;
+    if !has_method(message, at, PROTOCOL, ALGORITHM, REPLAY_METHOD) {
+        return Err(Refusal::OtherAuthentication);
     }
-    if len == REQUEST_LENGTH {
-        if has_method(message, at, PROTOCOL, ALGORITHM, REPLAY_METHOD) {
-            return Form::Refused(Refusal::RequestForm);
-        }
-        return Form::Refused(Refusal::OtherAuthentication);
+    match message[at + LENGTH_AT] {
+        FULL_LENGTH => Ok(Auth {
+            at,
+            counter: octets::big(message, at + COUNTER_AT, COUNTER_SIZE),
+            id: octets::big(message, at + SECRET_ID_AT, SECRET_ID_SIZE) as u32,
+            cut,
+            gap,
+        }),
+        REQUEST_LENGTH => Err(Refusal::RequestForm),
+        _ => Err(Refusal::OtherAuthentication),
     }
-    Form::Refused(Refusal::OtherAuthentication)
 }
 
 // Checks 2 to 9: the lowest that applies, or what option 90 says.
-pub fn form_of(message: &[u8]) -> Form
+pub fn form_of(message: &[u8]) -> Result<Auth, Refusal>
     ensures { result ≡ form_of message.now }
 {
-    let shape = shape_of(message);
-    match shape {
-        Shape::Refused(refusal) => Form::Refused(refusal),
-        Shape::Passed(places) => form_at(message, places),
-    }
+    let places = shape_of(message)?;
+    form_at(message, places)
 }

@@ -5,9 +5,8 @@ ghost use Rattle.dhcp_message.specs.Layout.{option_head};
 ghost use Rattle.dhcp_message.specs.Scan.{typed_of, type_found};
 ghost use Rattle.dhcp_message.specs.Types.{message_type_of};
 
-use crate::layout::{HEADER_SIZE, OPTION_HEAD, PAD_SIZE, TYPE, TYPE_OPTION};
-use crate::scan::here_at;
-use crate::{Here, MessageType};
+use crate::layout::{OPTION_HEAD, TYPE, TYPE_OPTION};
+use crate::{Here, Options};
 
 // What a pass has found of option 53: none, one that states a type, or what states none whatever follows.
 #[derive(Clone, Copy)]
@@ -18,6 +17,7 @@ pub(crate) enum Typing {
 }
 
 // What is found after one option more.
+#[tactic(auto, unfolding(crate::specs::Scan::typed_of))]
 fn typed(t: Typing, message: &[u8], code: u8, at: usize, size: usize) -> Typing
     requires option_head_le_size { option_head ≤ size }
     requires size_in_bounds { at + size ≤ length message.now }
@@ -27,46 +27,34 @@ fn typed(t: Typing, message: &[u8], code: u8, at: usize, size: usize) -> Typing
         return t;
     }
     match t {
-        Typing::NotYet => {
-            if size == TYPE_OPTION {
-                return Typing::As(message[at + OPTION_HEAD]);
-            }
-            Typing::Spoiled
-        }
-        Typing::As(_) => Typing::Spoiled,
-        Typing::Spoiled => Typing::Spoiled,
+        Typing::NotYet if size == TYPE_OPTION => Typing::As(message[at + OPTION_HEAD]),
+        _ => Typing::Spoiled,
     }
 }
 
 // What is stated where that was found of all options.
-fn type_found(t: Typing) -> MessageType
+#[tactic(auto, unfolding(crate::specs::Scan::type_found))]
+fn type_found(t: Typing) -> Option<u8>
     ensures { result ≡ type_found t }
 {
     match t {
-        Typing::NotYet => MessageType::Unstated,
-        Typing::As(stated) => MessageType::Stated(stated),
-        Typing::Spoiled => MessageType::Unstated,
+        Typing::As(stated) => Some(stated),
+        Typing::NotYet | Typing::Spoiled => None,
     }
 }
 
 // The message type of a message. Where its options can't be read, none.
-pub fn message_type(message: &[u8]) -> MessageType
+pub fn message_type(message: &[u8]) -> Option<u8>
     ensures { result ≡ message_type_of message.now }
 {
-    let mut t = Typing::NotYet;
-    let mut at: usize = HEADER_SIZE;
-    loop {
-        let here = here_at(message, at);
+    let mut typing = Typing::NotYet;
+    for (at, here) in Options::new(message) {
         match here {
-            Here::Broken => return MessageType::Unstated,
-            Here::End => return type_found(t),
-            Here::Pad => {
-                at = at + PAD_SIZE;
-            }
-            Here::Opt { code, size } => {
-                t = typed(t, message, code, at, size);
-                at = at + size;
-            }
+            Here::End => return type_found(typing),
+            Here::Opt { code, size } => typing = typed(typing, message, code, at, size),
+            // No Broken is given.
+            Here::Pad | Here::Broken => {}
         }
     }
+    None
 }
