@@ -4,7 +4,6 @@ use mathlib.Core.Path.{◌≡◌, refl, sym, ap, ◌∙◌}
 use mathlib.Core.Logic.{◌↔◌, ◌≢◌, ⊎_elim}
 use mathlib.Core.Bool.{Bool, true, false, and-eq-true_iff, true≢false}
 use mathlib.Core.List.{List, []}
-use mathlib.Core.Option.{Option, none, some}
 use Prim.Native.Nat.{ℕ, zero, suc, ◌+◌, ◌-◌, ◌≤◌, ◌<◌}
 use native.Mathlib.Decide.{dec_le}
 use native.Mathlib.Nat.{eq-or-lt_of_le, le_refl}
@@ -21,6 +20,7 @@ use Rattle.key_book.specs.declared.Sought.{Sought}
 use Rattle.key_book.specs.declared.Sought.TheVariants.{Stands, Missing, Unsized}
 use Rattle.key_book.proofs.Below.{both, is_false}
 use Rattle.key_book.proofs.Says.{row_says}
+use Rattle.std.specs.Prelude.{None, Option, Some}
 
 -- the middle lies among the rows that are left
 pub middle_within : {low high : ℕ} → low < high → (low ≤ middle low high) × (middle low high < high)
@@ -30,13 +30,13 @@ middle_within {low} {high} h = (omega arith, omega arith)
 
 module _ (ids : List ℕ) (id : ℕ) where
   -- a step of the computation: no row is left, or by what stands at the middle
-  in_none : (most : ℕ) {low high : ℕ} → high ≤ low → halved_in ids id most low high ≡ searched none 0
+  in_none : (most : ℕ) {low high : ℕ} → high ≤ low → halved_in ids id most low high ≡ searched None 0
   unfolding halved_in
   in_none zero h = refl
   in_none (suc most) {low} {high} h = rw (le-ltb low high h)
 
   module _ (most : ℕ) {low high : ℕ} (h : low < high) where
-    in_met : get_or ids (middle low high) 0 ≡ id → halved_in ids id (suc most) low high ≡ searched (some (middle low high)) 1
+    in_met : get_or ids (middle low high) 0 ≡ id → halved_in ids id (suc most) low high ≡ searched (Some (middle low high)) 1
     unfolding halved_in
     in_met e = rw (lt-ltb low high h, eq-eqb _ _ e)
 
@@ -73,7 +73,7 @@ module _ (ids : List ℕ) (id : ℕ) where
   one_step low high next = on (ltb low high) refl
     where
       look : low < high → (t : Bool) → eqb (get_or ids (middle low high) 0) id ≡ t → (u : Bool) → ltb id (get_or ids (middle low high) 0) ≡ u → Ends low high
-      look h true e u f = (some (middle low high), (1, met h (eqb-true _ _ e)))
+      look h true e u f = (Some (middle low high), (1, met h (eqb-true _ _ e)))
       look h false e true f =
           let w = middle_within h in
           let s = next low (middle low high) (omega arith) in
@@ -86,11 +86,11 @@ module _ (ids : List ℕ) (id : ℕ) where
           (s.0, (s.1.0 + 1, after h (omega arith) s.1.1))
 
       on : (t : Bool) → ltb low high ≡ t → Ends low high
-      on false e = (none, (0, ended (ltb-false low high e)))
+      on false e = (None, (0, ended (ltb-false low high e)))
       on true e = look (ltb-true low high e) (eqb (get_or ids (middle low high) 0) id) refl (ltb id (get_or ids (middle low high) 0)) refl
 
   steps_end : (most low high : ℕ) → high - low ≤ most → Ends low high
-  steps_end zero low high m = (none, (0, let h : high ≤ low = omega arith in ended h))
+  steps_end zero low high m = (None, (0, let h : high ≤ low = omega arith in ended h))
   steps_end (suc most) low high m = one_step low high (λ l h k. steps_end most l h (omega arith))
 
   -- so the search in the first rows is the one thing that the steps come to
@@ -110,23 +110,23 @@ module _ (ids : List ℕ) (id : ℕ) where
 -- ---- the entry
 
 -- an answer tells which case it is, and what it holds
-sought_stands : (looks : ℕ) (row : Option ℕ) {k n : ℕ} → sought_as looks row ≡ Stands k n → (row ≡ some k) × (looks ≡ n)
-sought_stands looks none e = absurd (let z : ◌≡◌ {A = ℕ} 0 1 = cc in omega arith)
-sought_stands looks (some j) e = (cc, cc)
+sought_stands : (looks : ℕ) (row : Option ℕ) {k n : ℕ} → sought_as looks row ≡ Stands k n → (row ≡ Some k) × (looks ≡ n)
+sought_stands looks None e = absurd (let z : ◌≡◌ {A = ℕ} 0 1 = cc in omega arith)
+sought_stands looks (Some j) e = (cc, cc)
 
-sought_missing : (looks : ℕ) (row : Option ℕ) {n : ℕ} → sought_as looks row ≡ Missing n → (row ≡ none) × (looks ≡ n)
-sought_missing looks none e = (refl, cc)
-sought_missing looks (some j) e = absurd (let z : ◌≡◌ {A = ℕ} 0 1 = cc in omega arith)
+sought_missing : (looks : ℕ) (row : Option ℕ) {n : ℕ} → sought_as looks row ≡ Missing n → (row ≡ None) × (looks ≡ n)
+sought_missing looks None e = (refl, cc)
+sought_missing looks (Some j) e = absurd (let z : ◌≡◌ {A = ℕ} 0 1 = cc in omega arith)
 
 as_sized : (looks : ℕ) (row : Option ℕ) → Unsized ≡ sought_as looks row → ⊥
-as_sized looks none e = absurd (let z : ◌≡◌ {A = ℕ} 0 1 = cc in omega arith)
-as_sized looks (some j) e = absurd (let z : ◌≡◌ {A = ℕ} 0 1 = cc in omega arith)
+as_sized looks None e = absurd (let z : ◌≡◌ {A = ℕ} 0 1 = cc in omega arith)
+as_sized looks (Some j) e = absurd (let z : ◌≡◌ {A = ℕ} 0 1 = cc in omega arith)
 
 stands_sized : {k looks : ℕ} → Unsized ≡ Stands k looks → ⊥
-stands_sized {k} {looks} e = as_sized looks (some k) e
+stands_sized {k} {looks} e = as_sized looks (Some k) e
 
 missing_sized : {looks : ℕ} → Unsized ≡ Missing looks → ⊥
-missing_sized {looks} e = as_sized looks none e
+missing_sized {looks} e = as_sized looks None e
 
 module _ (ids : List ℕ) (count : ℕ) where
   taken_says : (taken ids count ≡ true) ↔ Taken ids count
@@ -155,13 +155,13 @@ module _ (ids : List ℕ) (count : ℕ) where
     by_taken true e k n = taken_says.0 e
     by_taken false e k n = absurd (n (sym k ∙ known_unsized (λ t. true≢false (sym (taken_says.1 t) ∙ e))))
 
-    stands_halves : {k looks : ℕ} → known_of ids count id ≡ Stands k looks → Taken ids count × Halves ids id 0 count (some k) looks
+    stands_halves : {k looks : ℕ} → known_of ids count id ≡ Stands k looks → Taken ids count × Halves ids id 0 count (Some k) looks
     stands_halves {k} {looks} e =
         let t = by_taken (taken ids count) refl e (λ f. stands_sized (sym f)) in
         let s = sought_stands (halved ids count id).looks (halved ids count id).row (sym (known_taken t) ∙ e) in
         (t, rw (s.0, s.1) at (search_halves ids id count))
 
-    missing_halves : {looks : ℕ} → known_of ids count id ≡ Missing looks → Taken ids count × Halves ids id 0 count none looks
+    missing_halves : {looks : ℕ} → known_of ids count id ≡ Missing looks → Taken ids count × Halves ids id 0 count None looks
     missing_halves {looks} e =
         let t = by_taken (taken ids count) refl e (λ f. missing_sized (sym f)) in
         let s = sought_missing (halved ids count id).looks (halved ids count id).row (sym (known_taken t) ∙ e) in
@@ -220,12 +220,12 @@ module _ {ids : List ℕ} {count id low high looks : ℕ} (s : Halving ids count
         }
 
     pub halving_met : Taken ids count → get_or ids (middle low high) 0 ≡ id → Stands (middle low high) (looks + 1) ≡ known_of ids count id
-    halving_met t e = sym (known_halves ids count id t (s.comes_to (some (middle low high)) 1 (met h e)))
+    halving_met t e = sym (known_halves ids count id t (s.comes_to (Some (middle low high)) 1 (met h e)))
 
   pub halving_ended : Taken ids count → high ≤ low → Missing looks ≡ known_of ids count id
   halving_ended t h =
       let e : looks + 0 ≡ looks = omega arith in
-      sym (known_halves ids count id t (rw e at (s.comes_to none 0 (ended h))))
+      sym (known_halves ids count id t (rw e at (s.comes_to None 0 (ended h))))
 
 -- ---- what a row found holds, on any list
 
@@ -237,7 +237,7 @@ module _ (ids : List ℕ) (id : ℕ) where
     pub named : get_or ids k 0 ≡ id
     pub looked : 0 < looks
 
-  pub halves_holds : {low high looks : ℕ} {row : Option ℕ} → Halves ids id low high row looks → (k : ℕ) → row ≡ some k → Among low high k looks
+  pub halves_holds : {low high looks : ℕ} {row : Option ℕ} → Halves ids id low high row looks → (k : ℕ) → row ≡ Some k → Among low high k looks
   halves_holds (ended h) k e = absurd (let z : ◌≡◌ {A = ℕ} 0 1 = cc in omega arith)
   halves_holds {low} {high} (met h n) k e =
       let w = middle_within h in
@@ -266,7 +266,7 @@ module _ (ids : List ℕ) (id count : ℕ) (up : Ascends ids count) where
   up_to j k l m = ⊎_elim (λ (q : j ≡ k). rw q (le_refl (get_or ids k 0))) (λ (r : j < k). let u = up j k r m in omega arith) (eq-or-lt_of_le l)
 
   -- where the search ends without it, no row that was left has the id: those that it did not keep hold larger ids, or smaller ones
-  none_left : {low high looks : ℕ} {row : Option ℕ} → Halves ids id low high row looks → high ≤ count → row ≡ none
+  none_left : {low high looks : ℕ} {row : Option ℕ} → Halves ids id low high row looks → high ≤ count → row ≡ None
       → (k : ℕ) → low ≤ k → k < high → get_or ids k 0 ≢ id
   none_left (ended h) c e k l m f = omega arith
   none_left (met h n) c e k l m f = absurd (let z : ◌≡◌ {A = ℕ} 0 1 = cc in omega arith)
@@ -291,8 +291,8 @@ module _ (ids : List ℕ) (id count : ℕ) (up : Ascends ids count) where
   halves_row {looks} {row} s c = on row refl
     where
       on : (o : Option ℕ) → row ≡ o → row ≡ row_in ids count id
-      on none e = e ∙ sym ((row_says.no_row lent id).1 (λ k u l. none_left s (le_refl count) e k (omega arith) u))
-      on (some k) e =
+      on None e = e ∙ sym ((row_says.no_row lent id).1 (λ k u l. none_left s (le_refl count) e k (omega arith) u))
+      on (Some k) e =
           let a = halves_holds ids id s k e in
           e ∙ sym ((row_says.row lent id k).1 (record {
             used = a.below_high;
@@ -305,13 +305,13 @@ module _ (ids : List ℕ) (count id : ℕ) (t : Taken ids count) (up : Ascends i
   finds_same : known_of ids count id ≡ sought_as (halved ids count id).looks (row_in ids count id)
   finds_same = known_taken ids count id t ∙ ap (sought_as (halved ids count id).looks) (halves_row ids id count up (search_halves ids id count) t.counted)
 
-  finds_row : (k : ℕ) → ((looks : ℕ) × (known_of ids count id ≡ Stands k looks)) ↔ (row_in ids count id ≡ some k)
+  finds_row : (k : ℕ) → ((looks : ℕ) × (known_of ids count id ≡ Stands k looks)) ↔ (row_in ids count id ≡ Some k)
   finds_row k = (
     λ s. (sought_stands (halved ids count id).looks (row_in ids count id) (sym finds_same ∙ s.1)).0,
     λ e. ((halved ids count id).looks, finds_same ∙ ap (sought_as (halved ids count id).looks) e),
   )
 
-  finds_none : ((looks : ℕ) × (known_of ids count id ≡ Missing looks)) ↔ (row_in ids count id ≡ none)
+  finds_none : ((looks : ℕ) × (known_of ids count id ≡ Missing looks)) ↔ (row_in ids count id ≡ None)
   finds_none = (
     λ s. (sought_missing (halved ids count id).looks (row_in ids count id) (sym finds_same ∙ s.1)).0,
     λ e. ((halved ids count id).looks, finds_same ∙ ap (sought_as (halved ids count id).looks) e),

@@ -3,7 +3,6 @@
 use mathlib.Core.Path.{◌≡◌, refl, sym, ap, ◌∙◌}
 use mathlib.Core.Logic.{◌↔◌}
 use mathlib.Core.List.{List}
-use mathlib.Core.Option.{Option, none, some}
 use Prim.Native.Nat.{ℕ, zero, suc, ◌+◌, ◌-◌, ◌/◌, ◌^◌, ◌≤◌, ◌<◌}
 use native.Mathlib.Nat.{pow-zero, pow-suc, le_refl}
 use native.Mathlib.Decide.{dec_le}
@@ -15,6 +14,7 @@ use Rattle.key_book.specs.Known.{DigitsSay, FewLooks}
 use Rattle.key_book.specs.declared.Sought.{Sought}
 use Rattle.key_book.specs.declared.Sought.TheVariants.{Stands, Missing, Unsized}
 use Rattle.key_book.proofs.Halves.{middle_within, search_halves, known_taken, known_says, halves_holds}
+use Rattle.std.specs.Prelude.{None, Option, Some}
 
 -- ---- binary digits
 
@@ -118,7 +118,7 @@ pub larger_missing : (ids : List ℕ) (count id : ℕ) → Taken ids count → (
 larger_missing ids count id t a = on (halved ids count id).row refl
   where
     on : (o : Option ℕ) → (halved ids count id).row ≡ o → known_of ids count id ≡ Missing (binary_digits count)
-    on none e = known_taken ids count id t ∙ rw (e, few_looks.reached ids count id _ _ a (search_halves ids id count))
-    on (some k) e =
+    on None e = known_taken ids count id t ∙ rw (e, few_looks.reached ids count id _ _ a (search_halves ids id count))
+    on (Some k) e =
         let h = halves_holds ids id (search_halves ids id count) k e in
         absurd (let l = a k h.below_high in let n = h.named in omega arith)

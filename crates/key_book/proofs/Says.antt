@@ -4,7 +4,6 @@ use mathlib.Core.Path.{◌≡◌, refl, sym, ap, ◌∙◌}
 use mathlib.Core.Logic.{◌↔◌, ◌≢◌, inl, inr, ⊎_elim}
 use mathlib.Core.Bool.{Bool, true, false, cond, ◌&&◌, and-eq-true_iff}
 use mathlib.Core.List.{List, [], ◌∷◌}
-use mathlib.Core.Option.{Option, none, some}
 use Prim.Native.Nat.{ℕ, zero, suc, ◌+◌, ◌-◌, ◌*◌, ◌≤◌, ◌<◌}
 use native.Mathlib.Omega.{arith}
 use borrow.Author.Tests.{eq-eqb, le-leb, leb-true, eqb-true, eqb-false}
@@ -18,6 +17,7 @@ use Rattle.key_book.specs.Laws.{SizedSays, MarkFitsSays, SoundSays, FirstRow, No
 use Rattle.key_book.specs.Laws.{SoundDepends, RowDepends, KeyDepends}
 use Rattle.key_book.proofs.Below.{all_says, all_holds, all_alike, ascends}
 use Rattle.key_book.proofs.Keys.{Fits, key_part, key_start_lem}
+use Rattle.std.specs.Prelude.{None, Option, Some}
 
 leb_says : (m n : ℕ) → (leb m n ≡ true) ↔ (m ≤ n)
 leb_says m n = (leb-true m n, le-leb m n)
@@ -81,8 +81,8 @@ sound_says b = (
 
 -- the first place of an id in a list numbered from n: by the answer
 Placed : ℕ → ℕ → List ℕ → Option ℕ → Type 0
-Placed id n xs none = (i : ℕ) → i < length xs → get_or xs i 0 ≢ id
-Placed id n xs (some k) = (i : ℕ) × ((k ≡ n + i) × ((i < length xs) × ((get_or xs i 0 ≡ id) × ((j : ℕ) → j < i → get_or xs j 0 ≢ id))))
+Placed id n xs None = (i : ℕ) → i < length xs → get_or xs i 0 ≢ id
+Placed id n xs (Some k) = (i : ℕ) × ((k ≡ n + i) × ((i < length xs) × ((get_or xs i 0 ≡ id) × ((j : ℕ) → j < i → get_or xs j 0 ≢ id))))
 
 before_more : (id x : ℕ) (xs : List ℕ) (n : ℕ) → x ≢ id → ((j : ℕ) → j < n → get_or xs j 0 ≢ id) → (j : ℕ) → j < suc n → get_or (x ∷ xs) j 0 ≢ id
 before_more id x xs n d h zero l = d
@@ -90,15 +90,15 @@ before_more id x xs n d h (suc j) l = h j (omega arith)
 
 placed_more : (id n x : ℕ) (xs : List ℕ) → x ≢ id → (o : Option ℕ) → Placed id (suc n) xs o → Placed id n (x ∷ xs) o
 unfolding Placed
-placed_more id n x xs d none h = before_more id x xs (length xs) d h
-placed_more id n x xs d (some k) (i, (e, (l, (f, h)))) = (suc i, (omega arith, (omega arith, (f, before_more id x xs i d h))))
+placed_more id n x xs d None h = before_more id x xs (length xs) d h
+placed_more id n x xs d (Some k) (i, (e, (l, (f, h)))) = (suc i, (omega arith, (omega arith, (f, before_more id x xs i d h))))
 
 placed : (id n : ℕ) (xs : List ℕ) → Placed id n xs (place_from id n xs)
 unfolding Placed place_from
 placed id n [] = λ i h. absurd (omega arith)
 placed id n (x ∷ xs) = on (placed id (suc n) xs) (eqb x id) refl
   where
-    on : Placed id (suc n) xs (place_from id (suc n) xs) → (t : Bool) → eqb x id ≡ t → Placed id n (x ∷ xs) (cond t (some n) (place_from id (suc n) xs))
+    on : Placed id (suc n) xs (place_from id (suc n) xs) → (t : Bool) → eqb x id ≡ t → Placed id n (x ∷ xs) (cond t (Some n) (place_from id (suc n) xs))
     on ih true e = (0, (omega arith, (omega arith, (eqb-true x id e, λ j h. absurd (omega arith)))))
     on ih false e = placed_more id n x xs (eqb-false x id e) (place_from id (suc n) xs) ih
 
@@ -112,10 +112,10 @@ module _ (b : Book) (id : ℕ) where
   used_length : (k : ℕ) → (k < length used) ↔ ((k < b.rows) × (k < length b.ids))
   used_length k = (λ h. let l = rw length-take at h in (omega arith, omega arith), λ h. rw length-take (omega arith))
 
-  found_first : (k : ℕ) (o : Option ℕ) → Placed id 0 used o → o ≡ some k → FirstRow b id k
+  found_first : (k : ℕ) (o : Option ℕ) → Placed id 0 used o → o ≡ Some k → FirstRow b id k
   unfolding Placed
-  found_first k none h e = absurd (let z : ◌≡◌ {A = ℕ} 0 1 = cc in omega arith)
-  found_first k (some m) (i, (q, (l, (f, g)))) e =
+  found_first k None h e = absurd (let z : ◌≡◌ {A = ℕ} 0 1 = cc in omega arith)
+  found_first k (Some m) (i, (q, (l, (f, g)))) e =
       let m≡ : m ≡ k = cc in
       let i≡ : i ≡ k = omega arith in
       let l' = (used_length i).0 l in
@@ -126,19 +126,19 @@ module _ (b : Book) (id : ℕ) where
         first = λ j h n. g j (omega arith) (used_at j (omega arith) ∙ n);
       }
 
-  first_found : (k : ℕ) → FirstRow b id k → (o : Option ℕ) → Placed id 0 used o → o ≡ some k
+  first_found : (k : ℕ) → FirstRow b id k → (o : Option ℕ) → Placed id 0 used o → o ≡ Some k
   unfolding Placed
-  first_found k f none h = absurd (h k ((used_length k).1 (f.used, f.lent)) (used_at k f.used ∙ f.named))
-  first_found k f (some m) (i, (q, (l, (e, g)))) =
+  first_found k f None h = absurd (h k ((used_length k).1 (f.used, f.lent)) (used_at k f.used ∙ f.named))
+  first_found k f (Some m) (i, (q, (l, (e, g)))) =
       let later : i < k → ⊥ = λ h. f.first i h (sym (used_at i ((used_length i).0 l).0) ∙ e) in
       let earlier : k < i → ⊥ = λ h. g k h (used_at k f.used ∙ f.named) in
       let m≡ : m ≡ k = omega arith in
-      ap some m≡
+      ap Some m≡
 
-  none_found : (o : Option ℕ) → Placed id 0 used o → (o ≡ none) ↔ NoRow b id
+  none_found : (o : Option ℕ) → Placed id 0 used o → (o ≡ None) ↔ NoRow b id
   unfolding Placed
-  none_found none h = (λ e k u l n. h k ((used_length k).1 (u, l)) (used_at k u ∙ n), λ n. refl)
-  none_found (some m) (i, (q, (l, (e, g)))) =
+  none_found None h = (λ e k u l n. h k ((used_length k).1 (u, l)) (used_at k u ∙ n), λ n. refl)
+  none_found (Some m) (i, (q, (l, (e, g)))) =
       let l' = (used_length i).0 l in
       (λ e. absurd (let z : ◌≡◌ {A = ℕ} 0 1 = cc in omega arith), λ n. absurd (n i l'.0 l'.1 (sym (used_at i l'.0) ∙ e)))
 

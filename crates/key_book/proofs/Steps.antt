@@ -1,72 +1,27 @@
--- Soundness step by step: the ends of `sizes_agree`, `mark_fits` and `is_sound`, and what the loops of `ids_ascend`, `keys_sized`, `marks_heard` and
--- `marks_fit` test and end with.
-use mathlib.Core.Path.{◌≡◌, sym, ◌∙◌}
-use mathlib.Core.Logic.{◌≢◌}
-use mathlib.Core.Bool.{Bool, true, false, not}
-use mathlib.Core.List.{List}
-use Prim.Native.Nat.{ℕ, ◌+◌, ◌-◌, ◌*◌, ◌≤◌, ◌<◌}
+-- Soundness step by step: the ends of `is_sound`, and what `ids_ascend`, `keys_sized`, `marks_heard` and `marks_fit` go through and end with.
+use mathlib.Core.Path.{◌≡◌, refl, sym, ◌∙◌}
+use mathlib.Core.Bool.{Bool, true, false, not, ◌&&◌}
+use mathlib.Core.List.{List, [], ◌∷◌}
+use Prim.Native.Nat.{ℕ, zero, suc, ◌+◌, ◌-◌, ◌≤◌}
 use native.Mathlib.Omega.{arith}
-use borrow.Author.Tests.{eq-eqb, ne_eqb, eqb-true, le-leb, not-true, not-false}
+use borrow.Author.Tests.{eq-eqb, eqb-true, not-false}
 use lib.Dec.{ltb, eqb}
-use lib.ListN.{length, get_or}
-use Rattle.key_book.specs.Limits.{rows_most, slot_size, room_most, not_heard, heard}
-use Rattle.key_book.specs.Book.{Book, book_of, Sized, Sound, sized, ascending, key_size, key_sizes, mark_fits, marks_heard, marks_fit, sound}
-use Rattle.key_book.proofs.Says.{sized_says, sound_says}
-use Rattle.key_book.proofs.Below.{is_false, all_says, all_holds, Passed, pass_end, pass_fails}
+use lib.ListN.{length, get_or, take}
+use Rattle.key_book.specs.Limits.{heard}
+use Rattle.key_book.specs.Book.{all_below}
+use Rattle.key_book.specs.Book.{Book, Sized, sized, ascending, key_size, key_sizes, mark_fits, marks_heard, marks_fit}
+use Rattle.key_book.proofs.Says.{sized_says}
+use Rattle.key_book.proofs.Below.{all_says, all_holds, below_more, below_front, taken_end}
+use Rattle.std.specs.List.{list_all, zip}
 
-pub not_sized : (b : Book) → (Sized b → ⊥) → false ≡ sized b
-not_sized b h = is_false (sized b) (λ e. h ((sized_says b).0 e))
+-- what `sizes_agree` answered
+pub sizes_told : (b : Book) (t : Bool) → t ≡ sized b → not t ≡ false → Sized b
+sizes_told b t e g = (sized_says b).0 (sym e ∙ not-false t g)
 
--- all but the last of the sizes agree
-pub sizes_last : (b : Book) → length b.ids ≤ room_most → length b.lengths ≡ length b.ids → length b.store ≡ slot_size * length b.ids
-    → length b.marks ≡ length b.ids → length b.received ≡ length b.ids → eqb (length b.sent) (length b.ids) ≡ sized b
-unfolding sized
-sizes_last b h₀ h₁ h₂ h₃ h₄ = rw (le-leb _ _ h₀, eq-eqb _ _ h₁, eq-eqb _ _ h₂, eq-eqb _ _ h₃, eq-eqb _ _ h₄)
-
-pub not_sound : (b : Book) → (Sound b → ⊥) → false ≡ sound b
-not_sound b h = is_false (sound b) (λ e. h ((sound_says b).0 e))
-
--- what `sizes_agree` answered, for any row count
-module _ (ids lengths store marks received sent : List ℕ) (rows : ℕ) (t : Bool) (e : t ≡ sized (book_of ids lengths store marks received sent 0)) where
-  abbrev lent : Book
-  lent = book_of ids lengths store marks received sent rows
-
-  pub sound_sizes : not t ≡ true → false ≡ sound lent
-  unfolding sound sized
-  sound_sizes f = rw (sym e ∙ not-true t f)
-
-  pub sizes_kept : not t ≡ false → Sized lent
-  unfolding sized
-  sizes_kept g = (sized_says lent).0 (sym e ∙ not-false t g)
-
-  -- with the sizes and the row count, the ids, the key lengths and the marks decide
-  module _ (g : not t ≡ false) (h : rows ≤ length ids) (k : rows ≤ rows_most) (a : Bool) (ea : a ≡ ascending ids rows) where
-    pub sound_order : not a ≡ true → false ≡ sound lent
-    unfolding sound sized
-    sound_order f = rw (sym e ∙ not-false t g, le-leb _ _ h, le-leb _ _ k, sym ea ∙ not-true a f)
-
-    module _ (f : not a ≡ false) (r : Bool) (er : r ≡ key_sizes lengths rows) where
-      pub sound_keys : not r ≡ true → false ≡ sound lent
-      unfolding sound sized
-      sound_keys n = rw (sym e ∙ not-false t g, le-leb _ _ h, le-leb _ _ k, sym ea ∙ not-false a f, sym er ∙ not-true r n)
-
-      pub sound_marks : not r ≡ false → (u : Bool) → u ≡ marks_fit marks received rows → u ≡ sound lent
-      unfolding sound sized
-      sound_marks n u eu = rw (sym e ∙ not-false t g, le-leb _ _ h, le-leb _ _ k, sym ea ∙ not-false a f, sym er ∙ not-false r n) eu
-
--- the ends of `mark_fits`
-module _ (mark received : ℕ) where
-  pub fits_heard : mark ≡ heard → true ≡ mark_fits mark received
-  unfolding mark_fits
-  fits_heard e = rw (eq-eqb mark heard e)
-
-  pub fits_other : mark ≢ heard → mark ≢ not_heard → false ≡ mark_fits mark received
-  unfolding mark_fits
-  fits_other n m = rw (ne_eqb mark heard n, ne_eqb mark not_heard m)
-
-  pub fits_fresh : mark ≢ heard → mark ≡ not_heard → eqb received 0 ≡ mark_fits mark received
-  unfolding mark_fits
-  fits_fresh n e = rw (ne_eqb mark heard n, eq-eqb mark not_heard e)
+-- a heard row's mark fits any counter
+fits_heard : (mark received : ℕ) → mark ≡ heard → true ≡ mark_fits mark received
+unfolding mark_fits
+fits_heard mark received e = rw (eq-eqb mark heard e)
 
 -- an id is below the next
 abbrev pub rises : List ℕ → ℕ → Bool
@@ -84,23 +39,31 @@ is_heard marks k = eqb (get_or marks k 0) heard
 abbrev pub fitting : List ℕ → List ℕ → ℕ → Bool
 fitting marks received k = mark_fits (get_or marks k 0) (get_or received k 0)
 
--- the ends of the loops, by their flags
-module _ {flag : Bool} (rows : ℕ) {k : ℕ} where
-  pub rises_end : (ids : List ℕ) → Passed (rises ids) (rows - 1) flag k → rows ≤ k + 1 → flag ≡ ascending ids rows
-  unfolding ascending
-  rises_end ids s h = pass_end (rises ids) (rows - 1) s (omega arith)
+-- the two as a pair
+abbrev pub fits_pair : ℕ × ℕ → Bool
+fits_pair p = mark_fits p.0 p.1
 
-  pub keyed_end : (lengths : List ℕ) → Passed (keyed lengths) rows flag k → rows ≤ k → flag ≡ key_sizes lengths rows
+-- a turn of the loop over the ids, which compares the one at k with the one before it
+pub rises_more : (ids : List ℕ) (k : ℕ) → 1 ≤ k
+    → all_below (rises ids) (k + 1 - 1) ≡ (all_below (rises ids) (k - 1) && ltb (get_or ids (k - 1) 0) (get_or ids k 0))
+rises_more ids k h =
+    let e : k - 1 + 1 ≡ k = omega arith in
+    let f : k + 1 - 1 ≡ k - 1 + 1 = omega arith in
+    rw (f, below_more (rises ids) (k - 1), e) refl
+
+-- the ends of the loops
+pub rises_end : (ids : List ℕ) (rows k : ℕ) → k - 1 ≤ rows - 1 → rows ≤ k → all_below (rises ids) (k - 1) ≡ ascending ids rows
+unfolding ascending
+rises_end ids rows k h l = let e : k - 1 ≡ rows - 1 = omega arith in rw e
+
+module _ (xs : List ℕ) (rows k : ℕ) where
+  pub keyed_end : rows ≤ length xs → length (take rows xs) ≤ k → k ≤ length (take rows xs) → all_below (keyed (take rows xs)) k ≡ key_sizes xs rows
   unfolding key_sizes
-  keyed_end lengths s h = pass_end (keyed lengths) rows s h
+  keyed_end h l m = taken_end key_size xs rows k h l m
 
-  pub heard_end : (marks : List ℕ) → Passed (is_heard marks) rows flag k → rows ≤ k → flag ≡ marks_heard marks rows
+  pub heard_end : rows ≤ length xs → length (take rows xs) ≤ k → k ≤ length (take rows xs) → all_below (is_heard (take rows xs)) k ≡ marks_heard xs rows
   unfolding marks_heard
-  heard_end marks s h = pass_end (is_heard marks) rows s h
-
-  pub fitting_end : (marks received : List ℕ) → Passed (fitting marks received) rows flag k → rows ≤ k → flag ≡ marks_fit marks received rows
-  unfolding marks_fit
-  fitting_end marks received s h = pass_end (fitting marks received) rows s h
+  heard_end h l m = taken_end (λ m. eqb m heard) xs rows k h l m
 
 -- all rows are heard, whatever their counters
 pub heard_fit : (marks received : List ℕ) (rows : ℕ) → true ≡ marks_heard marks rows → true ≡ marks_fit marks received rows
@@ -108,6 +71,17 @@ unfolding marks_heard marks_fit
 heard_fit marks received rows e =
     sym (all_holds (fitting marks received) rows (λ k h. sym (fits_heard _ _ (eqb-true _ _ (all_says (is_heard marks) rows (sym e) k h)))))
 
-pub fitting_fails : (marks received : List ℕ) (rows : ℕ) {k : ℕ} → k < rows → false ≡ fitting marks received k → false ≡ marks_fit marks received rows
+-- row after row, the pairs of a mark and a counter fit
+pairs_fit : (n : ℕ) (marks received : List ℕ) → n ≤ length marks → n ≤ length received
+    → list_all fits_pair (zip (take n marks) (take n received)) ≡ all_below (fitting marks received) n
+unfolding all_below
+pairs_fit zero marks received h l = refl
+pairs_fit (suc n) [] received h l = absurd (omega arith)
+pairs_fit (suc n) (m ∷ marks) [] h l = absurd (omega arith)
+pairs_fit (suc n) (m ∷ marks) (r ∷ received) h l =
+    rw (pairs_fit n marks received (omega arith) (omega arith)) (sym (below_front (fitting (m ∷ marks) (r ∷ received)) n))
+
+pub fitting_all : (marks received : List ℕ) (rows : ℕ) → rows ≤ length marks → rows ≤ length received
+    → list_all fits_pair (zip (take rows marks) (take rows received)) ≡ marks_fit marks received rows
 unfolding marks_fit
-fitting_fails marks received rows h e = pass_fails (fitting marks received) rows h e
+fitting_all marks received rows h l = pairs_fit rows marks received h l

@@ -1,8 +1,7 @@
 -- The key book as it is lent, when it is sound, the row of a secret id and the key of a row: docs/RULES.md, 'The key book'.
 -- `Sound` is the rules' sentence and `sound` computes it; specs/Laws.antt states that they agree.
 use Rattle.std.specs.Prelude.{◌≡◌, ◌⊎◌, Bool, true, cond, ◌&&◌, List, [], ◌∷◌, ℕ, zero, suc, ◌+◌, ◌-◌, ◌*◌, ◌^◌, ◌≤◌, ◌<◌, leb, ltb, eqb, length}
-use Rattle.std.specs.Prelude.{get_or, take, drop}
-use Rattle.std.proofs.Math.Option.{Option, none, some}
+use Rattle.std.specs.Prelude.{get_or, take, drop, None, Option, Some}
 use Rattle.key_book.specs.Limits.{rows_most, slot_size, room_most, not_heard, heard}
 
 -- The seven lent things. Row k is the k-th of each list, and of the store the slot of `slot_size` bytes from `slotSize * k`.
@@ -100,8 +99,8 @@ heard_at b k = eqb (get_or b.marks k 0) heard
 
 -- where an id first stands in a list whose first element has number k
 unfoldable pub place_from : ℕ → ℕ → List ℕ → Option ℕ
-place_from id k [] = none
-place_from id k (x ∷ xs) = cond (eqb x id) (some k) (place_from id (suc k) xs)
+place_from id k [] = None
+place_from id k (x ∷ xs) = cond (eqb x id) (Some k) (place_from id (suc k) xs)
 
 -- the first row whose id it is, of the first so many ids
 unfoldable pub row_in : List ℕ → ℕ → ℕ → Option ℕ

@@ -1,7 +1,6 @@
 -- Is an id known? The search by halving, on any list of ids, ascending or not: docs/RULES.md, 'Is an id known?'.
 -- `Halves` is the rules' steps one by one and `halved` computes them; specs/Known.antt states that they agree.
-use Rattle.std.specs.Prelude.{◌≡◌, Bool, cond, ◌&&◌, List, ℕ, zero, suc, ◌+◌, ◌/◌, ◌≤◌, ◌<◌, leb, ltb, eqb, length, get_or}
-use Rattle.std.proofs.Math.Option.{Option, none, some}
+use Rattle.std.specs.Prelude.{◌≡◌, Bool, cond, ◌&&◌, List, ℕ, zero, suc, ◌+◌, ◌/◌, ◌≤◌, ◌<◌, leb, ltb, eqb, length, get_or, None, Option, Some}
 use Rattle.refusal.specs.Number.{number_of, done}
 use Rattle.refusal.specs.declared.Refusal.TheVariants.{UnsoundBook, UnknownSecret}
 use Rattle.key_book.specs.Limits.{room_most}
@@ -17,8 +16,8 @@ middle low high = (low + high) / 2
 -- Of the rows from low on and before high: none is left, and nothing is looked at; or the middle one is looked at and holds the id, or holds a larger one
 -- and what lies before it is kept, or a smaller one and what lies after it is. `row` is what the search comes to and `looks` how many ids were looked at.
 pub data Halves (ids : List ℕ) (id : ℕ) : (low high : ℕ) (row : Option ℕ) (looks : ℕ) → Type 0 where
-  ended : {low high : ℕ} → high ≤ low → Halves ids id low high none 0
-  met : {low high : ℕ} → low < high → get_or ids (middle low high) 0 ≡ id → Halves ids id low high (some (middle low high)) 1
+  ended : {low high : ℕ} → high ≤ low → Halves ids id low high None 0
+  met : {low high : ℕ} → low < high → get_or ids (middle low high) 0 ≡ id → Halves ids id low high (Some (middle low high)) 1
   before : {low high looks : ℕ} {row : Option ℕ} → low < high → id < get_or ids (middle low high) 0
       → Halves ids id low (middle low high) row looks → Halves ids id low high row (looks + 1)
   after : {low high looks : ℕ} {row : Option ℕ} → low < high → get_or ids (middle low high) 0 < id
@@ -39,15 +38,15 @@ one_more s = searched s.row (s.looks + 1)
 
 -- the steps, at most `most` of them: as many as there are rows left are always enough
 unfoldable pub halved_in : List ℕ → (id most low high : ℕ) → Search
-halved_in ids id zero low high = searched none 0
+halved_in ids id zero low high = searched None 0
 halved_in ids id (suc most) low high =
     cond (ltb low high)
     (cond (eqb (get_or ids (middle low high) 0) id)
-    (searched (some (middle low high)) 1)
+    (searched (Some (middle low high)) 1)
     (one_more (cond (ltb id (get_or ids (middle low high) 0))
     (halved_in ids id most low (middle low high))
     (halved_in ids id most (middle low high + 1) high))))
-    (searched none 0)
+    (searched None 0)
 
 -- the search in the first `count` rows
 unfoldable pub halved : List ℕ → (count id : ℕ) → Search
@@ -66,8 +65,8 @@ taken ids count = leb (length ids) room_most && leb count (length ids)
 
 -- the answer for a row, or none, and so many looks
 abbrev pub sought_as : (looks : ℕ) → Option ℕ → Sought
-sought_as looks none = Missing looks
-sought_as looks (some k) = Stands k looks
+sought_as looks None = Missing looks
+sought_as looks (Some k) = Stands k looks
 
 -- the answer of `known`
 unfoldable pub known_of : List ℕ → (count id : ℕ) → Sought

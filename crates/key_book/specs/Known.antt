@@ -1,15 +1,14 @@
 -- What is proved of the search by halving, each as a closed statement: docs/RULES.md, 'Is an id known?'. The proofs are in proofs/Halves.antt and
 -- proofs/Looks.antt.
-use Rattle.std.specs.Prelude.{◌≡◌, ◌↔◌, List, ℕ, ◌^◌, ◌≤◌, ◌<◌, length, get_or, take}
-use Rattle.std.proofs.Math.Option.{Option, none, some}
+use Rattle.std.specs.Prelude.{◌≡◌, ◌↔◌, List, ℕ, ◌^◌, ◌≤◌, ◌<◌, length, get_or, take, None, Option, Some}
 use Rattle.key_book.specs.Book.{row_in}
 use Rattle.key_book.specs.Halving.{Halves, Taken, halved, sought_as, known_of, looks_of, binary_digits}
 use Rattle.key_book.specs.declared.Sought.TheVariants.{Stands, Missing, Unsized}
 
 -- the answer is what the rules' steps come to, on any list
 pub record KnownSays : Type 0 where
-  pub stands : (ids : List ℕ) (count id k looks : ℕ) → (known_of ids count id ≡ Stands k looks) ↔ (Taken ids count × Halves ids id 0 count (some k) looks)
-  pub missing : (ids : List ℕ) (count id looks : ℕ) → (known_of ids count id ≡ Missing looks) ↔ (Taken ids count × Halves ids id 0 count none looks)
+  pub stands : (ids : List ℕ) (count id k looks : ℕ) → (known_of ids count id ≡ Stands k looks) ↔ (Taken ids count × Halves ids id 0 count (Some k) looks)
+  pub missing : (ids : List ℕ) (count id looks : ℕ) → (known_of ids count id ≡ Missing looks) ↔ (Taken ids count × Halves ids id 0 count None looks)
   pub unsized : (ids : List ℕ) (count id : ℕ) → (known_of ids count id ≡ Unsized) ↔ (Taken ids count → ⊥)
 
 -- a row that is given lies below the count and in the list, and holds the id; an id was looked at
@@ -32,9 +31,9 @@ pub record AscendingFinds : Type 0 where
   pub same : (ids : List ℕ) (count id : ℕ) → Taken ids count → Ascends ids count
       → known_of ids count id ≡ sought_as (halved ids count id).looks (row_in ids count id)
   pub row : (ids : List ℕ) (count id k : ℕ) → Taken ids count → Ascends ids count
-      → ((looks : ℕ) × (known_of ids count id ≡ Stands k looks)) ↔ (row_in ids count id ≡ some k)
+      → ((looks : ℕ) × (known_of ids count id ≡ Stands k looks)) ↔ (row_in ids count id ≡ Some k)
   pub no_row : (ids : List ℕ) (count id : ℕ) → Taken ids count → Ascends ids count
-      → ((looks : ℕ) × (known_of ids count id ≡ Missing looks)) ↔ (row_in ids count id ≡ none)
+      → ((looks : ℕ) × (known_of ids count id ≡ Missing looks)) ↔ (row_in ids count id ≡ None)
 
 -- the number of binary digits of n is the least d with n below 2^d
 abbrev pub DigitsSay : Type 0

@@ -1,6 +1,5 @@
 -- What is proved of a key book's definitions, each as a closed statement: docs/RULES.md, 'The key book'. The proofs are in proofs/Says.antt.
-use Rattle.std.specs.Prelude.{◌≡◌, ◌↔◌, ◌≢◌, true, ℕ, ◌+◌, ◌*◌, ◌≤◌, ◌<◌, length, get_or, take}
-use Rattle.std.proofs.Math.Option.{none, some}
+use Rattle.std.specs.Prelude.{◌≡◌, ◌↔◌, ◌≢◌, true, ℕ, ◌+◌, ◌*◌, ◌≤◌, ◌<◌, length, get_or, take, None, Some}
 use Rattle.key_book.specs.Limits.{slot_size, not_heard}
 use Rattle.key_book.specs.Book.{Book, Sized, Sound, MarkFits, sized, mark_fits, sound, row_of, key_of, key_start}
 
@@ -27,8 +26,8 @@ NoRow b id = (k : ℕ) → k < b.rows → k < length b.ids → get_or b.ids k 0 
 
 -- what the row of an id is, on any book
 pub record RowSays : Type 0 where
-  pub row : (b : Book) (id k : ℕ) → (row_of b id ≡ some k) ↔ FirstRow b id k
-  pub no_row : (b : Book) (id : ℕ) → (row_of b id ≡ none) ↔ NoRow b id
+  pub row : (b : Book) (id k : ℕ) → (row_of b id ≡ Some k) ↔ FirstRow b id k
+  pub no_row : (b : Book) (id : ℕ) → (row_of b id ≡ None) ↔ NoRow b id
 
 -- a row in use of a sound book lies within everything lent
 pub record Within (b : Book) (k : ℕ) : Type 0 where

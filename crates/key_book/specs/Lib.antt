@@ -1,5 +1,6 @@
 pub mod Limits
 pub mod Book
+pub mod Lent
 pub mod Halving
 pub mod Laws
 pub mod Known

@@ -6,9 +6,10 @@
 #![tactic(auto)]
 
 ghost use Rattle.std.specs.Prelude.{◌≡◌, ◌≤◌, length};
-ghost use Rattle.key_book.specs.Book.{book_of, sized, ascending, key_sizes, mark_fits, marks_heard, marks_fit, sound};
+ghost use Rattle.key_book.specs.Book.{sized, ascending, key_sizes, mark_fits, marks_heard, marks_fit, sound};
 ghost use Rattle.key_book.specs.Book.{key_in, key_start, moved_on};
 ghost use Rattle.key_book.specs.Halving.{known_of};
+ghost use Rattle.key_book.specs.Lent.{book_in, room_in};
 
 // The most rows in use.
 pub const ROWS_MOST: usize = 256;
@@ -17,13 +18,38 @@ pub const SLOT_SIZE: usize = 64;
 // The most rows that there may be room for.
 pub const ROOM_MOST: usize = 1024;
 
+// Marks are bytes and no enum: the host lends them as a list (C), and a byte that is neither makes the book unsound.
 // The mark of a row that is not heard: nothing was accepted under it yet, its received counter is 0, and any counter is new.
 pub const NOT_HEARD: u8 = 0;
 // The mark of one that is heard: a counter above the received one is new.
 pub const HEARD: u8 = 1;
 
-// What a search by halving comes to.
+// A book that is lent to be read. Lists and no list of rows: C lends them so.
 #[derive(Clone, Copy)]
+pub struct LentBook<'b> {
+    pub ids: &'b [u32],
+    pub lengths: &'b [u8],
+    pub store: &'b [u8],
+    pub marks: &'b [u8],
+    pub received: &'b [u64],
+    pub sent: &'b [u64],
+    pub rows: usize,
+}
+
+// The lists of a book, lent to be written: its rows are read from a card. Whoever reads the card says how many of them are in use.
+// That the sizes agree stands in the contracts that need it: any lists may be lent, and no type holds a room (tools/promises.py).
+#[derive(Drop)]
+pub struct LentRoom<'b> {
+    pub ids: &'b mut [u32],
+    pub lengths: &'b mut [u8],
+    pub store: &'b mut [u8],
+    pub marks: &'b mut [u8],
+    pub received: &'b mut [u64],
+    pub sent: &'b mut [u64],
+}
+
+// What a search by halving comes to.
+#[derive(Clone, Copy, Debug, PartialEq, Eq)]
 pub enum Sought {
     // The id stands in this row, and so many ids were looked at.
     Stands(usize, usize),
@@ -33,95 +59,62 @@ pub enum Sought {
     Unsized,
 }
 
-// Whether all lists have room for the same number of rows, and for no more than ROOM_MOST.
-pub fn sizes_agree(
-    ids: &[u32],
-    lengths: &[u8],
-    store: &[u8],
-    marks: &[u8],
-    received: &[u64],
-    sent: &[u64],
-) -> bool
-    ensures { let b = book_of ids.now lengths.now store.now marks.now received.now sent.now 0 in
-        result ≡ sized b }
-{
-    let room = ids.len();
-    if ROOM_MOST < room {
-        return false;
-    }
-    if lengths.len() != room {
-        return false;
-    }
-    if store.len() != SLOT_SIZE * room {
-        return false;
-    }
-    if marks.len() != room {
-        return false;
-    }
-    if received.len() != room {
-        return false;
-    }
-    sent.len() == room
-}
-
 // Whether each of the first ids is below the next of them. The loop has no way out: the compiler then compares several rows at a time.
+// By index: over `windows(2)` a turn of it is 18 instructions, and so 15 (LLVM, x86-64-v2).
+#[tactic(auto, using(crate::proofs::Below::below_none, crate::proofs::Steps::rises_more, crate::proofs::Steps::rises_end))]
 fn ids_ascend(ids: &[u32], rows: usize) -> bool
     requires { rows ≤ length ids.now }
     ensures { result ≡ ascending ids.now rows }
 {
     let mut ascend = true;
-    let mut k: usize = 0;
-    while k + 1 < rows {
-        ascend = ascend & (ids[k] < ids[k + 1]);
-        k += 1;
+    for k in 1..rows {
+        ascend &= ids[k - 1] < ids[k];
     }
     ascend
 }
 
 // Whether each of the first key lengths is 1 to SLOT_SIZE. The loop has no way out, as in `ids_ascend`.
+#[tactic(auto, using(crate::proofs::Below::below_none, crate::proofs::Below::below_more, crate::proofs::Steps::keyed_end))]
 fn keys_sized(lengths: &[u8], rows: usize) -> bool
     requires { rows ≤ length lengths.now }
     ensures { result ≡ key_sizes lengths.now rows }
 {
     let mut sized = true;
-    let mut k: usize = 0;
-    while k < rows {
-        let size = lengths[k] as usize;
-        sized = sized & (1 <= size) & (size <= SLOT_SIZE);
-        k += 1;
+    for &length in &lengths[..rows] {
+        sized &= (1 <= length) & (length as usize <= SLOT_SIZE);
     }
     sized
 }
 
-// Whether a row's mark is one of the two, and its received counter 0 where it is not heard.
+// Whether a row's mark is one of the two, and its received counter 0 where it is not heard. By cases: with `||` and `&&` the loop in `marks_fit` loads
+// the eight bytes of a heard row's counter too.
+#[tactic(auto, unfolding(crate::specs::Book::mark_fits))]
 pub fn mark_fits(mark: u8, received: u64) -> bool
     ensures { result ≡ mark_fits mark received }
 {
-    if mark == HEARD {
-        return true;
+    match mark {
+        HEARD => true,
+        NOT_HEARD => received == 0,
+        _ => false,
     }
-    if mark != NOT_HEARD {
-        return false;
-    }
-    received == 0
 }
 
 // Whether each of the first rows is heard. The loop has no way out, as in `ids_ascend`.
+#[tactic(auto, using(crate::proofs::Below::below_none, crate::proofs::Below::below_more, crate::proofs::Steps::heard_end))]
 fn marks_heard(marks: &[u8], rows: usize) -> bool
     requires { rows ≤ length marks.now }
     ensures { result ≡ marks_heard marks.now rows }
 {
     let mut heard = true;
-    let mut k: usize = 0;
-    while k < rows {
-        heard = heard & (marks[k] == HEARD);
-        k += 1;
+    for &mark in &marks[..rows] {
+        heard &= mark == HEARD;
     }
     heard
 }
 
 // Whether the mark of each of the first rows fits its received counter. The marks alone come first: where all rows are heard any counters fit, so
 // these, at eight bytes a row, are looked at only where a row is not heard.
+#[tactic(auto, using(crate::proofs::Steps::heard_fit, crate::proofs::Steps::fitting_all))]
 fn marks_fit(marks: &[u8], received: &[u64], rows: usize) -> bool
     requires rows_in_bounds { rows ≤ length marks.now }
     requires rows_in_bounds_2 { rows ≤ length received.now }
@@ -130,46 +123,60 @@ fn marks_fit(marks: &[u8], received: &[u64], rows: usize) -> bool
     if marks_heard(marks, rows) {
         return true;
     }
-    let mut k: usize = 0;
-    while k < rows {
-        if !mark_fits(marks[k], received[k]) {
-            return false;
-        }
-        k += 1;
-    }
-    true
+    marks[..rows]
+        .iter()
+        .zip(&received[..rows])
+        .all(|(&mark, &counter)| mark_fits(mark, counter))
 }
 
-// Whether the lent book is sound. It reads the sizes, the row count, and of the rows in use the ids, the key lengths, the marks, and the received
-// counters of those that are not heard.
-pub fn is_sound(
-    ids: &[u32],
-    lengths: &[u8],
-    store: &[u8],
-    marks: &[u8],
-    received: &[u64],
-    sent: &[u64],
-    rows: usize,
-) -> bool
-    ensures { let b = book_of ids.now lengths.now store.now marks.now received.now sent.now rows in
-        result ≡ sound b }
-{
-    if !sizes_agree(ids, lengths, store, marks, received, sent) {
-        return false;
+impl LentBook<'_> {
+    // Whether all lists have room for the same number of rows, and for no more than ROOM_MOST.
+    #[tactic(auto, unfolding(crate::specs::Book::sized))]
+    pub fn sizes_agree(self) -> bool
+        ensures { result ≡ sized (book_in self.entry) }
+    {
+        let room = self.ids.len();
+        room <= ROOM_MOST
+            && self.lengths.len() == room
+            && self.store.len() == SLOT_SIZE * room
+            && self.marks.len() == room
+            && self.received.len() == room
+            && self.sent.len() == room
     }
-    if ids.len() < rows {
-        return false;
+
+    // Whether the book is sound. It reads the sizes, the row count, and of the rows in use the ids, the key lengths, the marks, and the received counters of
+    // those that are not heard.
+    #[tactic(auto, unfolding(crate::specs::Book::sound))]
+    pub fn is_sound(self) -> bool
+        ensures { result ≡ sound (book_in self.entry) }
+    {
+        if !self.sizes_agree() {
+            return false;
+        }
+        self.rows <= self.ids.len()
+            && self.rows <= ROWS_MOST
+            && ids_ascend(self.ids, self.rows)
+            && keys_sized(self.lengths, self.rows)
+            && marks_fit(self.marks, self.received, self.rows)
     }
-    if ROWS_MOST < rows {
-        return false;
+}
+
+impl LentRoom<'_> {
+    // The same of lists that are lent to be written.
+    pub fn sizes_agree(&self) -> bool
+        ensures { result ≡ sized (room_in self.now 0) }
+    {
+        let book = LentBook {
+            ids: self.ids,
+            lengths: self.lengths,
+            store: self.store,
+            marks: self.marks,
+            received: self.received,
+            sent: self.sent,
+            rows: 0,
+        };
+        book.sizes_agree()
     }
-    if !ids_ascend(ids, rows) {
-        return false;
-    }
-    if !keys_sized(lengths, rows) {
-        return false;
-    }
-    marks_fit(marks, received, rows)
 }
 
 // Whether an id stands in the first `count` rows, by halving (docs/RULES.md, 'Is an id known?'). Nothing is asked of the list: on ids that don't ascend the
@@ -177,23 +184,20 @@ pub fn is_sound(
 pub fn known(ids: &[u32], count: usize, id: u32) -> Sought
     ensures { result ≡ known_of ids.now count id }
 {
-    if ROOM_MOST < ids.len() {
+    if ROOM_MOST < ids.len() || ids.len() < count {
         return Sought::Unsized;
     }
-    if ids.len() < count {
-        return Sought::Unsized;
-    }
-    let mut low: usize = 0;
+    // By hand: the library's `binary_search` says nothing of how many ids it looks at, and that number is promised.
+    let mut low = 0;
     let mut high = count;
-    let mut looks: usize = 0;
+    let mut looks = 0;
     while low < high {
         let middle = (low + high) / 2;
         let there = ids[middle];
         looks += 1;
         if there == id {
             return Sought::Stands(middle, looks);
-        }
-        if id < there {
+        } else if id < there {
             high = middle;
         } else {
             low = middle + 1;
@@ -202,7 +206,8 @@ pub fn known(ids: &[u32], count: usize, id: u32) -> Sought
     Sought::Missing(looks)
 }
 
-// The key of a row, as the part of the store itself. Where it does not fit (no sound book has such a row in use), the empty part at the store's start.
+// The key of a row, as the part of the store itself. Where it does not fit (no sound book has such a row in use), the empty part at the store's start: no
+// `Option`, as in `key_of_message`, which hands it on.
 pub fn key_of<'k, 'l>(store: &'k [u8], lengths: &'l [u8], row: usize) -> &'k [u8]
     ensures content { result.now ≡ key_in store.now lengths.now row }
     ensures place { result.ref_ptr ≡ moved_on store.entry.ref_ptr (key_start store.now lengths.now row) }

@@ -13,9 +13,6 @@ returns-then-store-row c =
     let told = key_absent c.args.store.now c.args.lengths.now c.args.row c.args.store.ref_ptr (λ f. omega arith) in
     record { content = told.0; place = told.1 }
 
-pub overflow_cast-size : goal.overflow_cast-size
-overflow_cast-size c = omega (arith, c.shared_slice_known-1.given c.args.row)
-
 pub returns-then-store-start : goal.returns-then-store-start
 returns-then-store-start c =
     let told = key_absent c.args.store.now c.args.lengths.now c.args.row c.args.store.ref_ptr (λ f. omega arith) in

@@ -1,38 +1,17 @@
 use borrow.Author.Rules.{rules}
 use native.Mathlib.Omega.{arith}
 use mathlib.Core.Path.{sym}
-use Rattle.key_book.proofs.Halves.{halving_start, halving_before, halving_after, halving_met, halving_ended, known_unsized}
+use Rattle.key_book.proofs.Halves.{halving_before, halving_after, halving_met, halving_ended, known_unsized}
 use Rattle.key_book.proofs.known.Goals as goal
 
 pub returns-then-ids-gt-ROOM_MOST : goal.returns-then-ids-gt-ROOM_MOST
 returns-then-ids-gt-ROOM_MOST c = sym (known_unsized _ _ _ (λ t. omega arith))
-
-pub returns-then-ids-count : goal.returns-then-ids-count
-returns-then-ids-count c = sym (known_unsized _ _ _ (λ t. omega arith))
-
-pub loop-low-init : goal.loop-low-init
-loop-low-init c = halving_start _ _ _
-
-pub overflow_add-middle : goal.overflow_add-middle
-overflow_add-middle c = omega (arith, c.loop-low.invariant)
-
-pub offset_bounds-ids-middle : goal.offset_bounds-ids-middle
-offset_bounds-ids-middle c = omega (arith, c.loop-low.invariant)
-
-pub bounds-ids-middle : goal.bounds-ids-middle
-bounds-ids-middle c = omega (arith, c.loop-low.invariant)
-
-pub overflow_add-looks : goal.overflow_add-looks
-overflow_add-looks c = omega (arith, c.loop-low.invariant)
 
 pub returns-then-there-id : goal.returns-then-there-id
 returns-then-there-id c = halving_met c.loop-low.invariant (search rules) (record { room = search rules; counted = search rules }) (search rules)
 
 pub loop-low-preserved-then-id-there : goal.loop-low-preserved-then-id-there
 loop-low-preserved-then-id-there c = halving_before c.loop-low.invariant (search rules) (search rules)
-
-pub overflow_add-low : goal.overflow_add-low
-overflow_add-low c = omega (arith, c.loop-low.invariant)
 
 pub loop-low-preserved : goal.loop-low-preserved
 loop-low-preserved c = halving_after c.loop-low.invariant (search rules) (omega arith)

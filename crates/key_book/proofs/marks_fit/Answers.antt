@@ -1,21 +1,15 @@
-use borrow.Author.Rules.{rules}
-use mathlib.Core.Path.{sym, ◌∙◌}
-use Rattle.key_book.proofs.Below.{pass_start, pass_turn}
-use Rattle.key_book.proofs.Steps.{heard_fit, fitting_fails, fitting_end}
+-- `key_book::marks_fit` meets its contract: heard rows fit; else the pairs of a mark and a counter are tested one by one (proofs/Steps.antt).
+use Rattle.std.proofs.Common.{◌∙◌, take, rules, tests}
+use Rattle.std.proofs.lemmas.Iterator.{YieldsList-from_slice, YieldsList-from_zip}
+use Rattle.std.proofs.lemmas.Iterator.Consumers.{YieldsList-at}
+use Rattle.std.proofs.lemmas.Iterator.Search.{all_from_yields_List}
+use Rattle.key_book.proofs.Steps.{fits_pair, fitting_all}
 use Rattle.key_book.proofs.marks_fit.Goals as goal
 
-pub returns-then-marks_heard : goal.returns-then-marks_heard
-returns-then-marks_heard c = heard_fit _ _ _ (sym c.if-marks_heard.true ∙ c.marks_heard.ensures)
-
-pub loop-k-init : goal.loop-k-init
-loop-k-init c = pass_start _ _
-
-pub returns-then-not-mark_fits : goal.returns-then-not-mark_fits
-returns-then-not-mark_fits c = fitting_fails _ _ _ (search rules) (sym (c.if-not-mark_fits.true) ∙ c.mark_fits.ensures)
-
-pub loop-k-preserved : goal.loop-k-preserved
-loop-k-preserved c =
-    pass_turn _ _ c.loop-k.invariant (search rules) (sym (c.if-not-mark_fits.false) ∙ c.mark_fits.ensures)
-
 pub returns : goal.returns
-returns c = fitting_end _ _ _ c.loop-k.invariant (search rules)
+returns c =
+    let marks = YieldsList-at c.zip.ensures.first (YieldsList-from_slice (take c.args.rows c.args.marks.now) c.iter.ensures.rest) in
+    let counters = YieldsList-from_slice {s = c.zip.result.b} (take c.args.rows c.args.received.now) (search rules) in
+    all_from_yields_List fits_pair c.all.new.self _ c.all.result c.all.ensures.ran (YieldsList-from_zip {s = c.zip.result} marks counters)
+    (λ x b q k. search (rules, tests))
+    ∙ fitting_all _ _ _ c.requires.rows_in_bounds c.requires.rows_in_bounds_2
