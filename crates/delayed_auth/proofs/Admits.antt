@@ -3,7 +3,6 @@
 use mathlib.Core.Path.{◌≡◌, refl, sym, ap, ◌∙◌}
 use mathlib.Core.Bool.{Bool, true, false, cond}
 use mathlib.Core.List.{List}
-use mathlib.Core.Option.{some}
 use Prim.Native.Nat.{ℕ, ◌*◌, ◌≤◌, ◌<◌}
 use native.Mathlib.Omega.{arith}
 use lib.ListN.{length}
@@ -11,13 +10,13 @@ use Rattle.refusal.specs.declared.Refusal.TheVariants.{UnsoundBook}
 use Rattle.hmac_md5.specs.Hmac.{key_most}
 use Rattle.dhcp_message.specs.Said.{Said, refused, says, said_of, form_of, form_says}
 use Rattle.dhcp_message.specs.declared.Auth.{Auth}
-use Rattle.dhcp_message.specs.declared.Form.{Form}
-use Rattle.dhcp_message.specs.declared.Form.TheVariants.{Refused, Full}
 use Rattle.dhcp_message.proofs.Seals.{form_says_lem}
 use Rattle.key_book.specs.Limits.{slot_size, room_most}
 use Rattle.key_book.specs.Book.{Book, sound, row_of, key_of, key_start}
 use Rattle.key_book.proofs.Says.{sound_says, row_says, rows_within, key_says}
 use Rattle.delayed_auth.specs.Admit.{admitted_said, admitted_form}
+use Rattle.std.specs.Prelude.{Err, Ok, Result, Some}
+use Rattle.refusal.specs.declared.Refusal.{Refusal}
 
 -- ---- 1 to 9
 
@@ -50,30 +49,30 @@ module _ (b : Book) (m : List ℕ) where
   unfolding admitted_said
   said_case = admitted_case b (said_of m) (refused UnsoundBook)
 
-  abbrev pub FormCase : Form → Type 0
-  FormCase f = AdmitCase b (form_of m) (Refused UnsoundBook) f
+  abbrev pub FormCase : Result Auth Refusal → Type 0
+  FormCase f = AdmitCase b (form_of m) (Err UnsoundBook) f
 
-  pub case_form : (f : Form) → FormCase f → f ≡ admitted_form b m
+  pub case_form : (f : Result Auth Refusal) → FormCase f → f ≡ admitted_form b m
   unfolding admitted_form
-  case_form = case_admitted b (form_of m) (Refused UnsoundBook)
+  case_form = case_admitted b (form_of m) (Err UnsoundBook)
 
-  pub form_case : (f : Form) → f ≡ admitted_form b m → FormCase f
+  pub form_case : (f : Result Auth Refusal) → f ≡ admitted_form b m → FormCase f
   unfolding admitted_form
-  form_case = admitted_case b (form_of m) (Refused UnsoundBook)
+  form_case = admitted_case b (form_of m) (Err UnsoundBook)
 
   -- what is said is what the form says
-  pub form_said_lem : (f : Form) → f ≡ admitted_form b m → form_says m f ≡ admitted_said b m
+  pub form_said_lem : (f : Result Auth Refusal) → f ≡ admitted_form b m → form_says m f ≡ admitted_said b m
   form_said_lem f e = case_said (form_says m f) (on f (form_case f e))
     where
-      on : (f : Form) → FormCase f → SaidCase (form_says m f)
+      on : (f : Result Auth Refusal) → FormCase f → SaidCase (form_says m f)
       on f (unsound_book s) = unsound_book s
       on f (sound_book s e) = sound_book s (form_says_lem.said m ∙ ap (form_says m) e)
 
   -- whoever passes is on a sound book
-  pub full_passed : (a : Auth) → Full a ≡ admitted_form b m → (sound b ≡ true) × (form_of m ≡ Full a)
-  full_passed a e = on (form_case (Full a) e)
+  pub full_passed : (a : Auth) → Ok a ≡ admitted_form b m → (sound b ≡ true) × (form_of m ≡ Ok a)
+  full_passed a e = on (form_case (Ok a) e)
     where
-      on : FormCase (Full a) → (sound b ≡ true) × (form_of m ≡ Full a)
+      on : FormCase (Ok a) → (sound b ≡ true) × (form_of m ≡ Ok a)
       on (sound_book s f) = (s, f)
 
 -- ---- a row that was found on a sound book
@@ -87,7 +86,7 @@ pub record RowFacts (b : Book) (k : ℕ) : Type 0 where
   pub key_start_lem : key_start b.store b.lengths k ≡ slot_size * k
   pub slot_inside : slot_size * k ≤ length b.store
 
-pub row_facts : (b : Book) (id k : ℕ) → sound b ≡ true → row_of b id ≡ some k → RowFacts b k
+pub row_facts : (b : Book) (id k : ℕ) → sound b ≡ true → row_of b id ≡ Some k → RowFacts b k
 row_facts b id k s e =
     let w = (sound_says b).0 s in
     let u = ((row_says.row b id k).0 e).used in
@@ -103,7 +102,7 @@ row_facts b id k s e =
       slot_inside = omega (arith, i.in_ids, w.sizes.store_agrees);
     }
 
-pub said_facts : (b : Book) (m : List ℕ) (c id k : ℕ) (mac : List ℕ) → says c id mac ≡ admitted_said b m → row_of b id ≡ some k → RowFacts b k
+pub said_facts : (b : Book) (m : List ℕ) (c id k : ℕ) (mac : List ℕ) → says c id mac ≡ admitted_said b m → row_of b id ≡ Some k → RowFacts b k
 said_facts b m c id k mac e f = on (said_case b m (says c id mac) e)
   where
     on : SaidCase b m (says c id mac) → RowFacts b k

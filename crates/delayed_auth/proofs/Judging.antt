@@ -4,38 +4,45 @@ use mathlib.Core.Path.{◌≡◌, refl, sym, ap, ◌∙◌}
 use mathlib.Core.Logic.{◌≢◌}
 use mathlib.Core.Bool.{Bool, true, false}
 use mathlib.Core.List.{List}
-use mathlib.Core.Option.{Option, none, some}
 use Prim.Native.Nat.{ℕ}
 use Rattle.refusal.specs.declared.Refusal.{Refusal}
+use Rattle.refusal.specs.Number.{given_or}
 use Rattle.refusal.specs.declared.Refusal.TheVariants.{UnknownSecret, Replay, WrongMac}
 use Rattle.hmac_md5.specs.Hmac.{hmac}
 use Rattle.dhcp_message.specs.Said.{Said, refused, says}
 use Rattle.dhcp_message.specs.Image.{image_of}
-use Rattle.dhcp_message.specs.declared.Form.TheVariants.{Refused as FormRefused}
 use Rattle.key_book.specs.Book.{Book, row_of, key_of}
-use Rattle.delayed_auth.specs.declared.Verdict.{Verdict}
-use Rattle.delayed_auth.specs.declared.Verdict.TheVariants.{Accepted, Refused}
 use Rattle.delayed_auth.specs.Admit.{admitted_said, admitted_form}
 use Rattle.octets.specs.Bytes.{same_bytes}
 use Rattle.delayed_auth.specs.Check.{new_to, judged_by, judged_row, judged_said, check_of, marks_after, received_after}
 use Rattle.octets.proofs.Comparing.{same_equal, same_differ, equal_same, differ_same}
 use Rattle.delayed_auth.proofs.Admits.{form_said_lem, RowFacts, said_facts}
+use Rattle.std.specs.Prelude.{Err, None, Option, Result, Some}
+use Rattle.delayed_auth.specs.declared.Accepted.{Accepted}
+use Rattle.delayed_auth.specs.Check.{accepting}
 
-pub data CheckCase (b : Book) (m : List ℕ) : Verdict → Type 0 where
-  check_refused : {r : Refusal} → refused r ≡ admitted_said b m → CheckCase b m (Refused r)
-  check_unknown : {c id : ℕ} {mac : List ℕ} → says c id mac ≡ admitted_said b m → row_of b id ≡ none → CheckCase b m (Refused UnknownSecret)
-  check_replay : {c id k : ℕ} {mac : List ℕ} → says c id mac ≡ admitted_said b m → row_of b id ≡ some k → new_to b k c ≡ false
-      → CheckCase b m (Refused Replay)
-  check_wrong : {c id k : ℕ} {mac : List ℕ} → says c id mac ≡ admitted_said b m → row_of b id ≡ some k → new_to b k c ≡ true
-      → mac ≢ hmac (key_of b k) (image_of m) → CheckCase b m (Refused WrongMac)
-  check_accepts : {c id k : ℕ} {mac : List ℕ} → says c id mac ≡ admitted_said b m → row_of b id ≡ some k → new_to b k c ≡ true
-      → mac ≡ hmac (key_of b k) (image_of m) → CheckCase b m (Accepted k c)
+pub data CheckCase (b : Book) (m : List ℕ) : Result Accepted Refusal → Type 0 where
+  check_refused : {r : Refusal} → refused r ≡ admitted_said b m → CheckCase b m (Err r)
+  check_unknown : {c id : ℕ} {mac : List ℕ} → says c id mac ≡ admitted_said b m → row_of b id ≡ None → CheckCase b m (Err UnknownSecret)
+  check_replay : {c id k : ℕ} {mac : List ℕ} → says c id mac ≡ admitted_said b m → row_of b id ≡ Some k → new_to b k c ≡ false
+      → CheckCase b m (Err Replay)
+  check_wrong : {c id k : ℕ} {mac : List ℕ} → says c id mac ≡ admitted_said b m → row_of b id ≡ Some k → new_to b k c ≡ true
+      → mac ≢ hmac (key_of b k) (image_of m) → CheckCase b m (Err WrongMac)
+  check_accepts : {c id k : ℕ} {mac : List ℕ} → says c id mac ≡ admitted_said b m → row_of b id ≡ Some k → new_to b k c ≡ true
+      → mac ≡ hmac (key_of b k) (image_of m) → CheckCase b m (accepting k c)
+
+-- the parts of what is accepted
+pub accepting_parts : {j c k d : ℕ} → accepting j c ≡ accepting k d → (j ≡ k) × (c ≡ d)
+accepting_parts {j} {c} e =
+    let none : Accepted = record { row = j; counter = c } in
+    let same = ap (given_or none) e in
+    (ap (λ (a : Accepted). a.row) same, ap (λ (a : Accepted). a.counter) same)
 
 module _ (b : Book) (m : List ℕ) where
   row_case : (c id : ℕ) (mac : List ℕ) → says c id mac ≡ admitted_said b m → (o : Option ℕ) → row_of b id ≡ o → CheckCase b m (judged_row b m c mac o)
   unfolding judged_row
-  row_case c id mac e none f = check_unknown e f
-  row_case c id mac e (some k) f = on (new_to b k c) refl (same_bytes mac (hmac (key_of b k) (image_of m))) refl
+  row_case c id mac e None f = check_unknown e f
+  row_case c id mac e (Some k) f = on (new_to b k c) refl (same_bytes mac (hmac (key_of b k) (image_of m))) refl
     where
       on : (new : Bool) → new_to b k c ≡ new → (right : Bool) → same_bytes mac (hmac (key_of b k) (image_of m)) ≡ right
           → CheckCase b m (judged_by k c new right)
@@ -59,28 +66,28 @@ module _ (b : Book) (m : List ℕ) where
   unfolding judged_said
   judged_row_lem c id mac o e f = ap (judged_row b m c mac) (sym f) ∙ judged_said_lem (says c id mac) e
 
-  pub case_check : (v : Verdict) → CheckCase b m v → v ≡ check_of b m
+  pub case_check : (v : Result Accepted Refusal) → CheckCase b m v → v ≡ check_of b m
   unfolding judged_said judged_row
   case_check v (check_refused {r} e) = judged_said_lem (refused r) e
-  case_check v (check_unknown {c} {id} {mac} e f) = judged_row_lem c id mac none e f
-  case_check v (check_replay {c} {id} {k} {mac} e f h) = rw h at (judged_row_lem c id mac (some k) e f)
+  case_check v (check_unknown {c} {id} {mac} e f) = judged_row_lem c id mac None e f
+  case_check v (check_replay {c} {id} {k} {mac} e f h) = rw h at (judged_row_lem c id mac (Some k) e f)
   case_check v (check_wrong {c} {id} {k} {mac} e f h g) =
-      rw (h, differ_same mac (hmac (key_of b k) (image_of m)) g) at (judged_row_lem c id mac (some k) e f)
+      rw (h, differ_same mac (hmac (key_of b k) (image_of m)) g) at (judged_row_lem c id mac (Some k) e f)
   case_check v (check_accepts {c} {id} {k} {mac} e f h g) =
-      rw (h, equal_same mac (hmac (key_of b k) (image_of m)) g) at (judged_row_lem c id mac (some k) e f)
+      rw (h, equal_same mac (hmac (key_of b k) (image_of m)) g) at (judged_row_lem c id mac (Some k) e f)
 
   -- 1 to 9, by the form
-  pub form_checked : (r : Refusal) → FormRefused r ≡ admitted_form b m → Refused r ≡ check_of b m
-  form_checked r e = case_check (Refused r) (check_refused (form_said_lem b m (FormRefused r) e))
+  pub form_checked : (r : Refusal) → Err r ≡ admitted_form b m → Err r ≡ check_of b m
+  form_checked r e = case_check (Err r) (check_refused (form_said_lem b m (Err r) e))
 
-  pub accepted_facts : (k c : ℕ) → Accepted k c ≡ check_of b m → RowFacts b k
+  pub accepted_facts : (k c : ℕ) → accepting k c ≡ check_of b m → RowFacts b k
   accepted_facts k c e = on (rw (← e) at check_case)
     where
-      on : CheckCase b m (Accepted k c) → RowFacts b k
+      on : CheckCase b m (accepting k c) → RowFacts b k
       on (check_accepts {c} {id} {k} {mac} e f h g) = said_facts b m c id k mac e f
 
   -- what the entry returns, and what it leaves in the marks and in the received counters
-  pub check_ends : (v : Verdict) → v ≡ check_of b m
+  pub check_ends : (v : Result Accepted Refusal) → v ≡ check_of b m
       → (v ≡ check_of b m)
       × ((marks_after v b.marks ≡ marks_after (check_of b m) b.marks) × (received_after v b.received ≡ received_after (check_of b m) b.received))
-  check_ends v e = (e, (ap (λ (x : Verdict). marks_after x b.marks) e, ap (λ (x : Verdict). received_after x b.received) e))
+  check_ends v e = (e, (ap (λ (x : Result Accepted Refusal). marks_after x b.marks) e, ap (λ (x : Result Accepted Refusal). received_after x b.received) e))

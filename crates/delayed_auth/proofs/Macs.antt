@@ -8,40 +8,42 @@ use lib.ListN.{length, take, drop, length-replicate}
 use lib.Seq.{take_at}
 use Rattle.octets.specs.Bytes.{zeros, same_bytes}
 use Rattle.hmac_md5.specs.Hmac.{hmac, hmac_of, key_most}
-use Rattle.hmac_md5.specs.declared.Mac.{Mac}
 use Rattle.hmac_md5.proofs.Masks.{hmac_taken}
 use Rattle.dhcp_message.specs.Layout.{mac_at, mac_size, full_size, message_most}
 use Rattle.dhcp_message.specs.Said.{form_of}
 use Rattle.dhcp_message.specs.Image.{image_of, cover_size, cover_left}
 use Rattle.dhcp_message.specs.declared.Auth.{Auth}
-use Rattle.dhcp_message.specs.declared.Form.TheVariants.{Full}
 use Rattle.dhcp_message.proofs.Seals.{seal_laws, full_form}
+use Rattle.std.specs.Prelude.{Ok, Option, Some}
+use Rattle.std.proofs.lemmas.Option.{same_Some}
 
 -- ---- the MAC over the covered image, which `cover` writes into zeros that have room for any message
 
-module _ (m : List ℕ) (a : Auth) (full : form_of m ≡ Full a) where
+module _ (m : List ℕ) (a : Auth) (full : form_of m ≡ Ok a) where
   abbrev zero_room : List ℕ
   zero_room = zeros message_most
 
-  covers : (cover_size m a zero_room ≡ length (image_of m)) × (cover_left m a zero_room ≡ image_of m ++ drop (length (image_of m)) zero_room)
+  covers : (cover_size m a zero_room ≡ Some (length (image_of m))) × (cover_left m a zero_room ≡ image_of m ++ drop (length (image_of m)) zero_room)
   covers = seal_laws.covers m a zero_room full (rw (length-replicate {A = ℕ} message_most 0) (full_form m a full).most)
 
   image_short : length (image_of m) ≤ message_most
   image_short = let f = full_form m a full in omega (arith, f.image_size, f.most)
 
-  pub cover_short : (size : ℕ) → size ≡ cover_size m a zero_room → size ≤ message_most
-  cover_short size e = omega (arith, image_short, covers.0)
+  pub cover_given : (o : Option ℕ) → o ≡ cover_size m a zero_room → o ≡ Some (length (image_of m))
+  cover_given o e = e ∙ covers.0
 
-  pub cover_front : (size : ℕ) (left : List ℕ) → size ≡ cover_size m a zero_room → left ≡ cover_left m a zero_room → take size left ≡ image_of m
+  pub cover_short : (size : ℕ) → Some size ≡ cover_size m a zero_room → size ≤ message_most
+  cover_short size e = let q = same_Some _ _ (cover_given _ e) in omega (arith, image_short)
+
+  pub cover_front : (size : ℕ) (left : List ℕ) → Some size ≡ cover_size m a zero_room → left ≡ cover_left m a zero_room → take size left ≡ image_of m
   cover_front size left e f =
-      ap (λ (n : ℕ). take n left) (e ∙ covers.0)
+      ap (λ (n : ℕ). take n left) (same_Some _ _ (cover_given _ e))
       ∙ ap (take (length (image_of m))) (f ∙ covers.1)
       ∙ take_at (image_of m) (drop (length (image_of m)) zero_room) (length (image_of m)) refl
 
-  pub mac_right : (key text : List ℕ) → length key ≤ key_most → text ≡ image_of m → (hmac_of key text).mac ≡ hmac key (image_of m)
+  pub mac_right : (key text : List ℕ) → length key ≤ key_most → text ≡ image_of m → hmac_of key text ≡ Ok (hmac key (image_of m))
   mac_right key text h e =
-      ap (λ (x : List ℕ). (hmac_of key x).mac) e
-      ∙ ap (λ (r : Mac). r.mac) (hmac_taken key (image_of m) h (omega (arith, image_short)))
+      ap (hmac_of key) e ∙ hmac_taken key (image_of m) h (omega (arith, image_short))
 
 -- ---- the MAC that stands in a message
 

@@ -1,60 +1,57 @@
 -- The ends of the key of a message, each as one case, and back. The only law file that unfolds `keyed_of` and its stage.
 use mathlib.Core.Path.{◌≡◌, refl, sym, ap, ◌∙◌}
 use mathlib.Core.List.{List}
-use mathlib.Core.Option.{Option, none, some}
 use Prim.Native.Nat.{ℕ}
 use native.Mathlib.Nat.{zero-add}
 use Rattle.refusal.specs.declared.Refusal.{Refusal}
 use Rattle.refusal.specs.declared.Refusal.TheVariants.{UnknownSecret}
 use Rattle.dhcp_message.specs.Said.{Said, refused, says}
 use Rattle.dhcp_message.specs.declared.Auth.{Auth}
-use Rattle.dhcp_message.specs.declared.Form.TheVariants.{Refused as FormRefused, Full}
 use Rattle.key_book.specs.Book.{Book, row_of, moved_on}
-use Rattle.delayed_auth.specs.declared.Keyed.{Keyed}
-use Rattle.delayed_auth.specs.declared.Keyed.TheVariants.{Row, NoKey}
 use Rattle.delayed_auth.specs.Admit.{admitted_said, admitted_form}
-use Rattle.delayed_auth.specs.Key.{keyed_row, keyed_said, keyed_of}
+use Rattle.delayed_auth.specs.Key.{keyed_said, keyed_of}
 use Rattle.delayed_auth.proofs.Admits.{form_said_lem, RowFacts, said_facts}
+use Rattle.std.specs.Prelude.{ok_or, Err, None, Ok, Option, Result, Some, ℕ}
 
-pub data KeyCase (b : Book) (m : List ℕ) : Keyed → Type 0 where
-  key_refused : {r : Refusal} → refused r ≡ admitted_said b m → KeyCase b m (NoKey r)
-  key_unknown : {c id : ℕ} {mac : List ℕ} → says c id mac ≡ admitted_said b m → row_of b id ≡ none → KeyCase b m (NoKey UnknownSecret)
-  key_row : {c id k : ℕ} {mac : List ℕ} → says c id mac ≡ admitted_said b m → row_of b id ≡ some k → KeyCase b m (Row k)
+pub data KeyCase (b : Book) (m : List ℕ) : Result ℕ Refusal → Type 0 where
+  key_refused : {r : Refusal} → refused r ≡ admitted_said b m → KeyCase b m (Err r)
+  key_unknown : {c id : ℕ} {mac : List ℕ} → says c id mac ≡ admitted_said b m → row_of b id ≡ None → KeyCase b m (Err UnknownSecret)
+  key_row : {c id k : ℕ} {mac : List ℕ} → says c id mac ≡ admitted_said b m → row_of b id ≡ Some k → KeyCase b m (Ok k)
 
 module _ (b : Book) (m : List ℕ) where
   pub key_case : KeyCase b m (keyed_of b m)
   unfolding keyed_of keyed_said
   key_case = on (admitted_said b m) refl
     where
-      row : (c id : ℕ) (mac : List ℕ) → says c id mac ≡ admitted_said b m → (o : Option ℕ) → row_of b id ≡ o → KeyCase b m (keyed_row o)
-      row c id mac e none f = key_unknown e f
-      row c id mac e (some k) f = key_row e f
+      row : (c id : ℕ) (mac : List ℕ) → says c id mac ≡ admitted_said b m → (o : Option ℕ) → row_of b id ≡ o → KeyCase b m (ok_or o UnknownSecret)
+      row c id mac e None f = key_unknown e f
+      row c id mac e (Some k) f = key_row e f
 
       on : (x : Said) → x ≡ admitted_said b m → KeyCase b m (keyed_said b x)
       on (refused r) e = key_refused e
       on (says c id mac) e = row c id mac e (row_of b id) refl
 
-  keyed_row_lem : (c id : ℕ) (mac : List ℕ) (o : Option ℕ) → says c id mac ≡ admitted_said b m → row_of b id ≡ o → keyed_row o ≡ keyed_of b m
+  keyed_row_lem : (c id : ℕ) (mac : List ℕ) (o : Option ℕ) → says c id mac ≡ admitted_said b m → row_of b id ≡ o → ok_or o UnknownSecret ≡ keyed_of b m
   unfolding keyed_of keyed_said
-  keyed_row_lem c id mac o e f = ap keyed_row (sym f) ∙ ap (keyed_said b) e
+  keyed_row_lem c id mac o e f = ap (λ (x : Option ℕ). ok_or x UnknownSecret) (sym f) ∙ ap (keyed_said b) e
 
-  pub case_key : (v : Keyed) → KeyCase b m v → v ≡ keyed_of b m
+  pub case_key : (v : Result ℕ Refusal) → KeyCase b m v → v ≡ keyed_of b m
   unfolding keyed_of keyed_said
   case_key v (key_refused {r} e) = ap (keyed_said b) e
-  case_key v (key_unknown {c} {id} {mac} e f) = keyed_row_lem c id mac none e f
-  case_key v (key_row {c} {id} {k} {mac} e f) = keyed_row_lem c id mac (some k) e f
+  case_key v (key_unknown {c} {id} {mac} e f) = keyed_row_lem c id mac None e f
+  case_key v (key_row {c} {id} {k} {mac} e f) = keyed_row_lem c id mac (Some k) e f
 
   -- by the form
-  pub form_keyed : (r : Refusal) → FormRefused r ≡ admitted_form b m → NoKey r ≡ keyed_of b m
-  form_keyed r e = case_key (NoKey r) (key_refused (form_said_lem b m (FormRefused r) e))
+  pub form_keyed : (r : Refusal) → Err r ≡ admitted_form b m → Err r ≡ keyed_of b m
+  form_keyed r e = case_key (Err r) (key_refused (form_said_lem b m (Err r) e))
 
-  pub row_keyed : (a : Auth) → Full a ≡ admitted_form b m → (o : Option ℕ) → row_of b a.id ≡ o → keyed_row o ≡ keyed_of b m
-  row_keyed a full o e = keyed_row_lem a.counter a.id _ o (form_said_lem b m (Full a) full) e
+  pub row_keyed : (a : Auth) → Ok a ≡ admitted_form b m → (o : Option ℕ) → row_of b a.id ≡ o → ok_or o UnknownSecret ≡ keyed_of b m
+  row_keyed a full o e = keyed_row_lem a.counter a.id _ o (form_said_lem b m (Ok a) full) e
 
-  pub keyed_facts : (k : ℕ) → Row k ≡ keyed_of b m → RowFacts b k
+  pub keyed_facts : (k : ℕ) → Ok k ≡ keyed_of b m → RowFacts b k
   keyed_facts k e = on (rw (← e) at key_case)
     where
-      on : KeyCase b m (Row k) → RowFacts b k
+      on : KeyCase b m (Ok k) → RowFacts b k
       on (key_row {c} {id} {k} {mac} e f) = said_facts b m c id k mac e f
 
 -- a pointer moved no byte on is the pointer

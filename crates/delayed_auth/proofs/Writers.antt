@@ -13,9 +13,9 @@ use Rattle.dhcp_message.specs.Said.{form_of}
 use Rattle.dhcp_message.specs.Image.{image_of}
 use Rattle.dhcp_message.specs.Seal.{fields, fields_put, mac_put, sealed_with, with_fields}
 use Rattle.dhcp_message.specs.declared.Auth.{Auth}
-use Rattle.dhcp_message.specs.declared.Form.TheVariants.{Full}
 use Rattle.dhcp_message.proofs.Seals.{seal_laws, full_form}
 use Rattle.delayed_auth.specs.Seal.{sealed_message}
+use Rattle.std.specs.Prelude.{Ok}
 
 pub sealed_message_lem : (key m : List ℕ) (a : Auth) (c id : ℕ)
     → sealed_message key m a c id ≡ sealed_with a (fields c id ++ hmac key (image_of (sealed_with a (fields c id ++ zeros mac_size) m))) m
@@ -36,12 +36,12 @@ part_back a m part = take (a.at + counter_at) m ++ (part ++ drop (part_size a) (
 
 -- what is known of the message that the first writer leaves: the second makes it the sealed one
 pub record Fielded (m : List ℕ) (a : Auth) (c id : ℕ) (m₁ : List ℕ) : Type 0 where
-  pub form : form_of m₁ ≡ Full (with_fields a c id)
+  pub form : form_of m₁ ≡ Ok (with_fields a c id)
   pub size : length m₁ ≡ length m
   pub sealed : (key mac part : List ℕ) → length mac ≡ mac_size → mac ≡ hmac key (image_of m₁) → part ≡ mac_put (part_of a m₁) mac
       → part_back a m₁ part ≡ sealed_message key m a c id
 
-module _ (m : List ℕ) (a : Auth) (c id : ℕ) (full : form_of m ≡ Full a) (hc : c < 2 ^ 64) (hi : id < 2 ^ 32) where
+module _ (m : List ℕ) (a : Auth) (c id : ℕ) (full : form_of m ≡ Ok a) (hc : c < 2 ^ 64) (hi : id < 2 ^ 32) where
   inside : a.at + counter_at + seal_size ≤ length m
   inside = omega (arith, (full_form m a full).inside)
 
@@ -73,13 +73,13 @@ module _ (m : List ℕ) (a : Auth) (c id : ℕ) (full : form_of m ≡ Full a) (h
   first_size : length first ≡ length m
   first_size = ap length first_sealed ∙ (seal_laws.seals m a old full length_old).size
 
-  first_form : form_of first ≡ Full (with_fields a c id)
+  first_form : form_of first ≡ Ok (with_fields a c id)
   unfolding old
   first_form =
       ap form_of first_sealed
       ∙ (seal_laws.seals m a old full length_old).form
-      ∙ ap (λ (n : ℕ). Full (with_fields a n (big_at old counter_size secret_id_size))) (seal_laws.counter_read c id stale hc)
-      ∙ ap (λ (n : ℕ). Full (with_fields a c n)) (seal_laws.id_read c id stale hi)
+      ∙ ap (λ (n : ℕ). Ok (with_fields a n (big_at old counter_size secret_id_size))) (seal_laws.counter_read c id stale hc)
+      ∙ ap (λ (n : ℕ). Ok (with_fields a c n)) (seal_laws.id_read c id stale hi)
 
   first_image : image_of first ≡ image_of (sealed_with a (fields c id ++ zeros mac_size) m)
   unfolding old

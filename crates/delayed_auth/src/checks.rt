@@ -1,73 +1,53 @@
 // Check: judges a message by 1 to 12, and stores the counter of an accepted one and that its row is heard. docs/RULES.md, 'Check'; RFC 3118, section 5.3.
-ghost use Rattle.std.specs.Prelude.{◌≡◌};
+ghost use Rattle.std.specs.Prelude.{◌≡◌, Ok};
+ghost use Rattle.key_book.specs.Lent.{book_in};
 ghost use Rattle.key_book.specs.Book.{book_of};
 ghost use Rattle.delayed_auth.specs.Admit.{admitted_form};
 ghost use Rattle.delayed_auth.specs.Check.{check_of, marks_after, received_after};
 
-use crate::{Found, Verdict, admitted, mac_of, row_of};
-use dhcp_message::{Auth, Form};
+use crate::{Accepted, admitted, mac_of, row_of};
+use dhcp_message::Auth;
+use key_book::LentBook;
 use refusal::Refusal;
 
 // 10 to 12, of a message that passes 1 to 9. The counter is looked at before the MAC is computed (RFC 3118, section 5.3). On a heard row it must be
 // above the stored one: with replay method 0 the counter rises with every message (RFC 3118, section 2), so nothing new comes with the counter that
 // was accepted last, and what comes with it was seen before. On a row that is not heard any counter is new.
-fn judged_full(
-    ids: &[u32],
-    lengths: &[u8],
-    store: &[u8],
-    marks: &[u8],
-    received: &[u64],
-    sent: &[u64],
-    rows: usize,
-    message: &[u8],
-    auth: Auth,
-) -> Verdict
-    requires { let b = book_of ids.now lengths.now store.now marks.now received.now sent.now rows in
-        Form.Full auth ≡ admitted_form b message.now }
-    ensures { let b = book_of ids.now lengths.now store.now marks.now received.now sent.now rows in
-        result ≡ check_of b message.now }
+fn judged_full(book: LentBook, message: &[u8], auth: Auth) -> Result<Accepted, Refusal>
+    requires { Ok auth ≡ admitted_form (book_in book) message.now }
+    ensures { result ≡ check_of (book_in book.entry) message.now }
 {
-    let found = row_of(ids, rows, auth.id);
-    let Found::At(row) = found else {
-        return Verdict::Refused(Refusal::UnknownSecret);
-    };
-    let heard = marks[row] == key_book::HEARD;
-    if !dhcp_message::is_new(heard, received[row], auth.counter) {
-        return Verdict::Refused(Refusal::Replay);
+    let row = row_of(book.ids, book.rows, auth.id).ok_or(Refusal::UnknownSecret)?;
+    let heard = book.marks[row] == key_book::HEARD;
+    if !dhcp_message::is_new(heard, book.received[row], auth.counter) {
+        return Err(Refusal::Replay);
     }
-    let mac = mac_of(key_book::key_of(store, lengths, row), message, auth);
+    let mac = mac_of(
+        key_book::key_of(book.store, book.lengths, row),
+        message,
+        auth,
+    );
     let from = auth.at + dhcp_message::MAC_AT;
     let to = auth.at + dhcp_message::FULL_SIZE;
     if !octets::same(&message[from..to], &mac) {
-        return Verdict::Refused(Refusal::WrongMac);
+        return Err(Refusal::WrongMac);
     }
-    Verdict::Accepted(row, auth.counter)
+    Ok(Accepted {
+        row,
+        counter: auth.counter,
+    })
 }
 
 // 1 to 12, nothing stored.
-fn judged(
-    ids: &[u32],
-    lengths: &[u8],
-    store: &[u8],
-    marks: &[u8],
-    received: &[u64],
-    sent: &[u64],
-    rows: usize,
-    message: &[u8],
-) -> Verdict
-    ensures { let b = book_of ids.now lengths.now store.now marks.now received.now sent.now rows in
-        result ≡ check_of b message.now }
+fn judged(book: LentBook, message: &[u8]) -> Result<Accepted, Refusal>
+    ensures { result ≡ check_of (book_in book.entry) message.now }
 {
-    let form = admitted(ids, lengths, store, marks, received, sent, rows, message);
-    match form {
-        Form::Refused(refusal) => Verdict::Refused(refusal),
-        Form::Full(auth) => judged_full(
-            ids, lengths, store, marks, received, sent, rows, message, auth,
-        ),
-    }
+    let auth = admitted(book, message)?;
+    judged_full(book, message, auth)
 }
 
-// Judges a message, and where it is accepted stores its counter as received and marks its row heard.
+// Judges a message, and where it is accepted stores its counter as received and marks its row heard. The lists come one by one, as in `seal`: the form that
+// the client named (docs/ARCHITECTURE.md, 'Where each form stands').
 pub fn check(
     ids: &[u32],
     lengths: &[u8],
@@ -77,7 +57,7 @@ pub fn check(
     sent: &[u64],
     rows: usize,
     message: &[u8],
-) -> Verdict
+) -> Result<Accepted, Refusal>
     ensures answer { let b = book_of ids.now lengths.now store.now marks.old received.old sent.now rows in
         result ≡ check_of b message.now }
     ensures marked { let b = book_of ids.now lengths.now store.now marks.old received.old sent.now rows in
@@ -85,13 +65,17 @@ pub fn check(
     ensures stored { let b = book_of ids.now lengths.now store.now marks.old received.old sent.now rows in
         received.new ≡ received_after (check_of b message.now) received.old }
 {
-    let verdict = judged(ids, lengths, store, marks, received, sent, rows, message);
-    match verdict {
-        Verdict::Accepted(row, counter) => {
-            marks[row] = key_book::HEARD;
-            received[row] = counter;
-            Verdict::Accepted(row, counter)
-        }
-        Verdict::Refused(refusal) => Verdict::Refused(refusal),
-    }
+    let book = LentBook {
+        ids,
+        lengths,
+        store,
+        marks: &*marks,
+        received: &*received,
+        sent,
+        rows,
+    };
+    let accepted = judged(book, message)?;
+    marks[accepted.row] = key_book::HEARD;
+    received[accepted.row] = accepted.counter;
+    Ok(accepted)
 }

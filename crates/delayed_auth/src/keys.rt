@@ -1,40 +1,25 @@
 // The key of a message: 1 to 10, and the part of the key store that holds the key of the named secret. docs/RULES.md, 'Key of a message'.
 ghost use Rattle.std.specs.Prelude.{◌≡◌};
+ghost use Rattle.refusal.specs.Number.{result_number};
+ghost use Rattle.key_book.specs.Lent.{book_in};
 ghost use Rattle.key_book.specs.Book.{book_of, moved_on};
-ghost use Rattle.delayed_auth.specs.Key.{keyed_of, key_number, key_bytes, key_offset};
+ghost use Rattle.delayed_auth.specs.Key.{keyed_of, key_bytes, key_offset};
 
-use crate::{Found, Keyed, admitted, row_of};
-use dhcp_message::Form;
+use crate::{admitted, row_of};
+use key_book::LentBook;
 use refusal::Refusal;
 
 // The row of the secret that a message names.
-pub fn named_row(
-    ids: &[u32],
-    lengths: &[u8],
-    store: &[u8],
-    marks: &[u8],
-    received: &[u64],
-    sent: &[u64],
-    rows: usize,
-    message: &[u8],
-) -> Keyed
-    ensures { let b = book_of ids.now lengths.now store.now marks.now received.now sent.now rows in
-        result ≡ keyed_of b message.now }
+pub fn named_row(book: LentBook, message: &[u8]) -> Result<usize, Refusal>
+    ensures { result ≡ keyed_of (book_in book.entry) message.now }
 {
-    let form = admitted(ids, lengths, store, marks, received, sent, rows, message);
-    match form {
-        Form::Refused(refusal) => Keyed::NoKey(refusal),
-        Form::Full(auth) => {
-            let found = row_of(ids, rows, auth.id);
-            match found {
-                Found::At(row) => Keyed::Row(row),
-                Found::Nothing => Keyed::NoKey(Refusal::UnknownSecret),
-            }
-        }
-    }
+    let auth = admitted(book, message)?;
+    row_of(book.ids, book.rows, auth.id).ok_or(Refusal::UnknownSecret)
 }
 
-// The key of the secret that a message names, as the part of the key store itself; refused, the empty part at the store's start.
+// The key of the secret that a message names, as the part of the key store itself; refused, the empty part at the store's start, and `key_number` has the
+// number: no `Result`, since the client named this form (docs/RULES.md, 'Key of a message'). The lists come one by one: of them only the store has the
+// lifetime of the key.
 pub fn key_of_message<'k, 'l>(
     ids: &'l [u32],
     lengths: &'l [u8],
@@ -50,30 +35,24 @@ pub fn key_of_message<'k, 'l>(
     ensures place { let b = book_of ids.now lengths.now store.now marks.now received.now sent.now rows in
         result.ref_ptr ≡ moved_on store.entry.ref_ptr (key_offset (keyed_of b message.now)) }
 {
-    let key = named_row(ids, lengths, store, marks, received, sent, rows, message);
-    match key {
-        Keyed::Row(row) => key_book::key_of(store, lengths, row),
-        Keyed::NoKey(_) => &store[..0],
+    let book = LentBook {
+        ids,
+        lengths,
+        store,
+        marks,
+        received,
+        sent,
+        rows,
+    };
+    match named_row(book, message) {
+        Ok(row) => key_book::key_of(store, lengths, row),
+        Err(_) => &store[..0],
     }
 }
 
 // The number that goes with `key_of_message` on the same inputs.
-pub fn key_number(
-    ids: &[u32],
-    lengths: &[u8],
-    store: &[u8],
-    marks: &[u8],
-    received: &[u64],
-    sent: &[u64],
-    rows: usize,
-    message: &[u8],
-) -> u8
-    ensures { let b = book_of ids.now lengths.now store.now marks.now received.now sent.now rows in
-        result ≡ key_number (keyed_of b message.now) }
+pub fn key_number(book: LentBook, message: &[u8]) -> u8
+    ensures { result ≡ result_number (keyed_of (book_in book.entry) message.now) }
 {
-    let key = named_row(ids, lengths, store, marks, received, sent, rows, message);
-    match key {
-        Keyed::Row(_) => 0,
-        Keyed::NoKey(refusal) => refusal::number(refusal),
-    }
+    refusal::result_number(named_row(book, message))
 }

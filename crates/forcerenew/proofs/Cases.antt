@@ -1,62 +1,59 @@
 -- The ends of a judgement, each as one case: what is so where the judgement is this one (`judge_case`), and that it is this one where that is so
--- (`case_judge`). It unfolds `judge_of`, `shown_of` and `server_at`; Stored does so once more, for what a judgement depends on.
+-- (`case_judge`). It unfolds `judge_of`, `shown_of` and `server_at`; so do Stored, for what a judgement depends on, and the code's `planned`.
 use mathlib.Core.Path.{◌≡◌, refl, sym, ap, ◌∙◌, subst}
 use mathlib.Core.Logic.{◌≢◌}
 use mathlib.Core.Bool.{Bool, true, false, ◌&&◌, ◌||◌, not}
 use mathlib.Core.List.{List}
-use mathlib.Core.Option.{Option, none, some}
-use Prim.Native.Nat.{ℕ, ◌+◌, ◌-◌, ◌*◌, ◌≤◌, ◌<◌}
-use native.Mathlib.Decide.{ℕ_discrete, dec_le}
+use Prim.Native.Nat.{ℕ, ◌+◌, ◌*◌, ◌≤◌, ◌<◌}
+use native.Mathlib.Decide.{ℕ_discrete}
 use native.Mathlib.Omega.{arith}
 use borrow.Author.Tests.{eqb-true, eqb-false, ltb-true, ltb-false, lt-ltb, le-ltb}
 use lib.Dec.{ltb, eqb}
-use lib.ListN.{length, get_or, set, take, drop, length-drop}
-use lib.Seq.{length-take-le, take_all}
+use lib.ListN.{length, get_or, drop, length-drop}
+use lib.Seq.{length-take-le}
 use Rattle.refusal.specs.declared.Refusal.{Refusal}
 use Rattle.refusal.specs.declared.Refusal.TheVariants.{UnsoundBook, UnknownSecret, NotByNonce, WrongType, NoNonce, Replay, WrongMac}
-use Rattle.octets.specs.Bytes.{written, starts, same_bytes}
+use Rattle.octets.specs.Bytes.{starts, same_bytes}
 use Rattle.octets.proofs.Comparing.{same_equal, same_differ, equal_same, differ_same}
 use Rattle.hmac_md5.specs.Hmac.{hmac}
 use Rattle.dhcp_message.specs.Shape.{shape_of}
 use Rattle.dhcp_message.specs.Types.{message_type_of}
-use Rattle.dhcp_message.proofs.Forms.{form_fits_lem}
+pub use Rattle.dhcp_message.proofs.Forms.{form_fits_lem, form_short}
 use Rattle.dhcp_message.specs.declared.Places.{Places}
-use Rattle.dhcp_message.specs.declared.Shape.{Shape}
-use Rattle.dhcp_message.specs.declared.Shape.TheVariants.{Refused, Passed}
-use Rattle.dhcp_message.specs.declared.MessageType.{MessageType}
-use Rattle.dhcp_message.specs.declared.MessageType.TheVariants.{Stated, Unstated}
 use Rattle.forcerenew.specs.Layout.{by_nonce}
 use Rattle.forcerenew.specs.Rows.{Servers, SoundRows, sound_rows, Server, row_at, server_at}
 use Rattle.forcerenew.specs.Shown.{Shown, unread, unfit, gives, orders, counter_in, type_in, value_in, image_at, goes_with, shown_at, shown_in, shown_of}
 use Rattle.forcerenew.specs.Judging.{Judgement, takes, knows, renews, refused, given, ordered, known_to, new_to, judged_row, judged_shown, judge_of}
-use Rattle.forcerenew.specs.Judging.{judged_of, nonces_after, counters_after, row_marks_after}
 use Rattle.forcerenew.proofs.Soundness.{rows_say}
 use Rattle.forcerenew.proofs.Leaves.{shown_length, shown_method, shown_type, shown_gives, shown_orders}
-use Rattle.forcerenew.specs.declared.Judged.TheVariants.{Accepted}
-use Rattle.forcerenew.proofs.Leaves.{part, order_first, order_replay, order_wrong, order_renews}
+use Rattle.forcerenew.proofs.Leaves.{order_first, order_replay, order_wrong, order_renews}
+use Rattle.std.specs.Prelude.{Err, None, Ok, Option, Result, Some, ℕ}
+use Rattle.forcerenew.specs.Judging.{heeding}
+use Rattle.refusal.specs.Number.{given_or}
+use Rattle.forcerenew.specs.declared.Heeded.{Heeded}
 
 -- ---- which type goes with which message
 
 -- of a type that goes with the message type
-pub data Matched (type : ℕ) (stated : MessageType) : Type 0 where
-  nonce_in_ack : type ≡ 1 → stated ≡ Stated 5 → Matched type stated
-  mac_in_forcerenew : type ≡ 2 → stated ≡ Stated 9 → Matched type stated
+pub data Matched (type : ℕ) (stated : Option ℕ) : Type 0 where
+  nonce_in_ack : type ≡ 1 → stated ≡ Some 5 → Matched type stated
+  mac_in_forcerenew : type ≡ 2 → stated ≡ Some 9 → Matched type stated
 
-pub goes_matched : (type : ℕ) (stated : MessageType) → goes_with type stated ≡ true → Matched type stated
+pub goes_matched : (type : ℕ) (stated : Option ℕ) → goes_with type stated ≡ true → Matched type stated
 unfolding goes_with
-goes_matched type Unstated e = let z : ◌≡◌ {A = ℕ} 0 1 = cc in absurd (omega arith)
-goes_matched type (Stated n) e = by (eqb type 1) (eqb n 5) (eqb type 2) (eqb n 9) refl refl refl refl e
+goes_matched type None e = let z : ◌≡◌ {A = ℕ} 0 1 = cc in absurd (omega arith)
+goes_matched type (Some n) e = by (eqb type 1) (eqb n 5) (eqb type 2) (eqb n 9) refl refl refl refl e
   where
-    by : (a b c d : Bool) → eqb type 1 ≡ a → eqb n 5 ≡ b → eqb type 2 ≡ c → eqb n 9 ≡ d → ((a && b) || (c && d)) ≡ true → Matched type (Stated n)
-    by true true c d ea eb ec ed e = nonce_in_ack (eqb-true type 1 ea) (ap Stated (eqb-true n 5 eb))
-    by true false true true ea eb ec ed e = mac_in_forcerenew (eqb-true type 2 ec) (ap Stated (eqb-true n 9 ed))
+    by : (a b c d : Bool) → eqb type 1 ≡ a → eqb n 5 ≡ b → eqb type 2 ≡ c → eqb n 9 ≡ d → ((a && b) || (c && d)) ≡ true → Matched type (Some n)
+    by true true c d ea eb ec ed e = nonce_in_ack (eqb-true type 1 ea) (ap Some (eqb-true n 5 eb))
+    by true false true true ea eb ec ed e = mac_in_forcerenew (eqb-true type 2 ec) (ap Some (eqb-true n 9 ed))
     by true false true false ea eb ec ed e = let z : ◌≡◌ {A = ℕ} 0 1 = cc in absurd (omega arith)
     by true false false d ea eb ec ed e = let z : ◌≡◌ {A = ℕ} 0 1 = cc in absurd (omega arith)
-    by false b true true ea eb ec ed e = mac_in_forcerenew (eqb-true type 2 ec) (ap Stated (eqb-true n 9 ed))
+    by false b true true ea eb ec ed e = mac_in_forcerenew (eqb-true type 2 ec) (ap Some (eqb-true n 9 ed))
     by false b true false ea eb ec ed e = let z : ◌≡◌ {A = ℕ} 0 1 = cc in absurd (omega arith)
     by false b false d ea eb ec ed e = let z : ◌≡◌ {A = ℕ} 0 1 = cc in absurd (omega arith)
 
-pub matched_goes : (type : ℕ) (stated : MessageType) → Matched type stated → goes_with type stated ≡ true
+pub matched_goes : (type : ℕ) (stated : Option ℕ) → Matched type stated → goes_with type stated ≡ true
 unfolding goes_with
 matched_goes type stated (nonce_in_ack e f) = rw (e, f)
 matched_goes type stated (mac_in_forcerenew e f) = rw (e, f)
@@ -72,8 +69,8 @@ pub data ShownCase (m : List ℕ) (o : ℕ) : Shown → Type 0 where
   other_length : get_or m (o + 1) 0 ≢ 28 → ShownCase m o (unfit NotByNonce)
   other_method : starts by_nonce (drop (o + 2) m) ≡ false → ShownCase m o (unfit NotByNonce)
   other_type : Formed m o → goes_with (type_in m o) (message_type_of m) ≡ false → ShownCase m o (unfit WrongType)
-  a_nonce : Formed m o → type_in m o ≡ 1 → message_type_of m ≡ Stated 5 → ShownCase m o (gives (counter_in m o) (value_in m o))
-  an_order : Formed m o → type_in m o ≡ 2 → message_type_of m ≡ Stated 9 → ShownCase m o (orders (counter_in m o) (value_in m o) (image_at m o))
+  a_nonce : Formed m o → type_in m o ≡ 1 → message_type_of m ≡ Some 5 → ShownCase m o (gives (counter_in m o) (value_in m o))
+  an_order : Formed m o → type_in m o ≡ 2 → message_type_of m ≡ Some 9 → ShownCase m o (orders (counter_in m o) (value_in m o) (image_at m o))
 
 module _ (m : List ℕ) (o : ℕ) where
   pub shown_case : ShownCase m o (shown_at m o)
@@ -102,39 +99,25 @@ module _ (m : List ℕ) (o : ℕ) where
   case_shown x (an_order f g h) =
       shown_orders m o f.size f.method (matched_goes (type_in m o) (message_type_of m) (mac_in_forcerenew g h)) (λ e. omega arith)
 
--- a nonce and an order have length 28
-module _ (m : List ℕ) (o : ℕ) where
-  abbrev Whole : Shown → Type 0
-  Whole (unread r) = Unit {0}
-  Whole (unfit r) = Unit {0}
-  Whole (gives c nonce) = get_or m (o + 1) 0 ≡ 28
-  Whole (orders c mac image) = get_or m (o + 1) 0 ≡ 28
-
-  whole : (x : Shown) → ShownCase m o x → Whole x
-  whole x (other_length n) = tt
-  whole x (other_method e) = tt
-  whole x (other_type f e) = tt
-  whole x (a_nonce f g h) = f.size
-  whole x (an_order f g h) = f.size
-
-  pub gives_size : (c : ℕ) (nonce : List ℕ) → gives c nonce ≡ shown_at m o → get_or m (o + 1) 0 ≡ 28
-  gives_size c nonce e = whole (gives c nonce) (rw (← e) at (shown_case m o))
-
-  pub orders_size : (c : ℕ) (mac image : List ℕ) → orders c mac image ≡ shown_at m o → get_or m (o + 1) 0 ≡ 28
-  orders_size c mac image e = whole (orders c mac image) (rw (← e) at (shown_case m o))
-
 -- ---- a judgement
 
 -- the rows are sound, the message passes 2 to 7, and the row is there
 pub record Placed (s : Servers) (k : ℕ) (m : List ℕ) (p : Places) : Type 0 where
   pub sound : sound_rows s ≡ true
-  pub shape : shape_of m ≡ Passed p
+  pub shape : shape_of m ≡ Ok p
   pub row : k < length s.marks
+
+-- the parts of what is accepted
+pub heeding_parts : {j c k d : ℕ} → heeding j c ≡ heeding k d → (j ≡ k) × (c ≡ d)
+heeding_parts {j} {c} e =
+    let none : Heeded = record { kind = j; counter = c } in
+    let same = ap (given_or none) e in
+    (ap (λ (a : Heeded). a.kind) same, ap (λ (a : Heeded). a.counter) same)
 
 pub data JudgeCase (s : Servers) (k : ℕ) (m : List ℕ) : Judgement → Type 0 where
   judge_unsound : sound_rows s ≡ false → JudgeCase s k m (refused UnsoundBook)
-  judge_unread : {r : Refusal} → sound_rows s ≡ true → shape_of m ≡ Refused r → JudgeCase s k m (refused r)
-  judge_no_row : {p : Places} → sound_rows s ≡ true → shape_of m ≡ Passed p → length s.marks ≤ k → JudgeCase s k m (refused UnknownSecret)
+  judge_unread : {r : Refusal} → sound_rows s ≡ true → shape_of m ≡ Err r → JudgeCase s k m (refused r)
+  judge_no_row : {p : Places} → sound_rows s ≡ true → shape_of m ≡ Ok p → length s.marks ≤ k → JudgeCase s k m (refused UnknownSecret)
   judge_unfit : {p : Places} {r : Refusal} → Placed s k m p → ShownCase m p.at (unfit r) → JudgeCase s k m (refused r)
   judge_takes : {p : Places} {c : ℕ} {nonce : List ℕ} → Placed s k m p → ShownCase m p.at (gives c nonce) → known_to (row_at s k) nonce ≡ false
       → JudgeCase s k m (takes c nonce)
@@ -150,47 +133,53 @@ pub data JudgeCase (s : Servers) (k : ℕ) (m : List ℕ) : Judgement → Type 0
       → new_to (row_at s k) c ≡ true → mac ≡ hmac (row_at s k).nonce image → JudgeCase s k m (renews c)
 
 module _ (s : Servers) (k : ℕ) where
-  pub row_there : k < length s.marks → server_at s k ≡ some (row_at s k)
+  pub row_there : k < length s.marks → server_at s k ≡ Some (row_at s k)
   unfolding server_at
   row_there h = rw (lt-ltb _ _ h)
 
-  pub row_missing : length s.marks ≤ k → server_at s k ≡ none
+  pub row_missing : length s.marks ≤ k → server_at s k ≡ None
   unfolding server_at
   row_missing h = rw (le-ltb _ _ h)
 
 -- of a row that is there, 2 to 7 don't stop what option 90 shows
-at_row : (w : Server) (x : Shown) → judged_shown (some w) x ≡ judged_row w x
+pub at_row : (w : Server) (x : Shown) → judged_shown (Some w) x ≡ judged_row w x
 at_row w (unread r) = refl
 at_row w (unfit r) = refl
 at_row w (gives c nonce) = refl
 at_row w (orders c mac image) = refl
 
+-- what the code's `planned` rests on, of a row that is there: this, and that what passes 2 to 7 is short enough and has a whole option 90
+pub ruleset planned_laws = (row_there, at_row, form_short, form_fits_lem)
+
 -- of a row that is not there, 10 whatever it shows
-no_row : (m : List ℕ) (o : ℕ) (x : Shown) → ShownCase m o x → judged_shown none x ≡ refused UnknownSecret
-no_row m o x (other_length n) = refl
-no_row m o x (other_method e) = refl
-no_row m o x (other_type f e) = refl
-no_row m o x (a_nonce f g h) = refl
-no_row m o x (an_order f g h) = refl
+no_row : (m : List ℕ) (o : ℕ) → judged_shown None (shown_at m o) ≡ refused UnknownSecret
+no_row m o = on (shown_at m o) (shown_case m o)
+  where
+    on : (x : Shown) → ShownCase m o x → judged_shown None x ≡ refused UnknownSecret
+    on x (other_length n) = refl
+    on x (other_method e) = refl
+    on x (other_type f e) = refl
+    on x (a_nonce f g h) = refl
+    on x (an_order f g h) = refl
 
 module _ (s : Servers) (k : ℕ) (m : List ℕ) where
-  pub unsound_is : sound_rows s ≡ false → judge_of s k m ≡ refused UnsoundBook
+  unsound_is : sound_rows s ≡ false → judge_of s k m ≡ refused UnsoundBook
   unfolding judge_of
   unsound_is e = rw e
 
-  sound_is : sound_rows s ≡ true → (x : Shape) → shape_of m ≡ x → judge_of s k m ≡ judged_shown (server_at s k) (shown_in m x)
+  sound_is : sound_rows s ≡ true → (x : Result Places Refusal) → shape_of m ≡ x → judge_of s k m ≡ judged_shown (server_at s k) (shown_in m x)
   unfolding judge_of shown_of
-  sound_is e x f = rw e (ap (λ (y : Shape). judged_shown (server_at s k) (shown_in m y)) f)
+  sound_is e x f = rw e (ap (λ (y : Result Places Refusal). judged_shown (server_at s k) (shown_in m y)) f)
 
-  module _ (p : Places) (sound : sound_rows s ≡ true) (shape : shape_of m ≡ Passed p) where
+  module _ (p : Places) (sound : sound_rows s ≡ true) (shape : shape_of m ≡ Ok p) where
     pub missing_is : length s.marks ≤ k → judge_of s k m ≡ refused UnknownSecret
     missing_is h =
-        sound_is sound (Passed p) shape ∙ ap (λ (o : Option Server). judged_shown o (shown_at m p.at)) (row_missing s k h)
-        ∙ no_row m p.at (shown_at m p.at) (shown_case m p.at)
+        sound_is sound (Ok p) shape ∙ ap (λ (o : Option Server). judged_shown o (shown_at m p.at)) (row_missing s k h)
+        ∙ no_row m p.at
 
-    pub row_is : k < length s.marks → judge_of s k m ≡ judged_row (row_at s k) (shown_at m p.at)
+    row_is : k < length s.marks → judge_of s k m ≡ judged_row (row_at s k) (shown_at m p.at)
     row_is h =
-        sound_is sound (Passed p) shape ∙ ap (λ (o : Option Server). judged_shown o (shown_at m p.at)) (row_there s k h)
+        sound_is sound (Ok p) shape ∙ ap (λ (o : Option Server). judged_shown o (shown_at m p.at)) (row_there s k h)
         ∙ at_row (row_at s k) (shown_at m p.at)
 
   module _ (p : Places) (q : Placed s k m p) where
@@ -224,7 +213,7 @@ module _ (s : Servers) (k : ℕ) (m : List ℕ) where
   pub judge_case : JudgeCase s k m (judge_of s k m)
   judge_case = on (sound_rows s) refl (shape_of m) refl
     where
-      there : (p : Places) → sound_rows s ≡ true → shape_of m ≡ Passed p → (t : Bool) → ltb k (length s.marks) ≡ t → JudgeCase s k m (judge_of s k m)
+      there : (p : Places) → sound_rows s ≡ true → shape_of m ≡ Ok p → (t : Bool) → ltb k (length s.marks) ≡ t → JudgeCase s k m (judge_of s k m)
       there p e f false g =
           let l = ltb-false k (length s.marks) g in
           subst (JudgeCase s k m) (sym (missing_is p e f l)) (judge_no_row e f l)
@@ -232,14 +221,14 @@ module _ (s : Servers) (k : ℕ) (m : List ℕ) where
           let q : Placed s k m p = record { sound = e; shape = f; row = ltb-true k (length s.marks) g } in
           subst (JudgeCase s k m) (sym (row_is p e f q.row)) (by_row p q (shown_at m p.at) (shown_case m p.at))
 
-      on : (t : Bool) → sound_rows s ≡ t → (x : Shape) → shape_of m ≡ x → JudgeCase s k m (judge_of s k m)
+      on : (t : Bool) → sound_rows s ≡ t → (x : Result Places Refusal) → shape_of m ≡ x → JudgeCase s k m (judge_of s k m)
       on false e x f = subst (JudgeCase s k m) (sym (unsound_is e)) (judge_unsound e)
-      on true e (Refused r) f = subst (JudgeCase s k m) (sym (sound_is e (Refused r) f)) (judge_unread e f)
-      on true e (Passed p) f = there p e f _ refl
+      on true e (Err r) f = subst (JudgeCase s k m) (sym (sound_is e (Err r) f)) (judge_unread e f)
+      on true e (Ok p) f = there p e f _ refl
 
   pub case_judge : (j : Judgement) → JudgeCase s k m j → judge_of s k m ≡ j
   case_judge j (judge_unsound e) = unsound_is e
-  case_judge j (judge_unread {r} e f) = sound_is e (Refused r) f
+  case_judge j (judge_unread {r} e f) = sound_is e (Err r) f
   case_judge j (judge_no_row {p} e f l) = missing_is p e f l
   case_judge j (judge_unfit {p} {r} q h) = shown_is p q (unfit r) h
   case_judge j (judge_takes {p} {c} {nonce} q h e) = shown_is p q (gives c nonce) h ∙ ap (given c nonce) e
@@ -266,20 +255,9 @@ room s k e h =
     record { sound = w; in_marks = h; in_counters = omega (arith, w.counters_agree); in_nonces = omega (arith, w.nonces_agree) }
 
 -- a nonce has sixteen bytes, which are the message's
-value_size_lem : (m : List ℕ) (p : Places) (c : ℕ) (nonce : List ℕ) → shape_of m ≡ Passed p → ShownCase m p.at (gives c nonce) → length nonce ≡ 16
+value_size_lem : (m : List ℕ) (p : Places) (c : ℕ) (nonce : List ℕ) → shape_of m ≡ Ok p → ShownCase m p.at (gives c nonce) → length nonce ≡ 16
 value_size_lem m p c nonce e (a_nonce f g h) =
     length-take-le 16 (drop (p.at + 14) m) (omega (arith, form_fits_lem m p (sym e), f.size, length-drop (p.at + 14) m))
-
--- sixteen bytes from an offset on lie in the message
-pub value_inside : (m : List ℕ) (o : ℕ) → length (value_in m o) ≡ 16 → o + 30 ≤ length m
-value_inside m o e =
-    elim (dec_le (o + 30) (length m)) [
-      | yes h ↦ h
-      | no h ↦
-          let d = length-drop (o + 14) m in
-          let short = ap length (take_all 16 (drop (o + 14) m) (omega arith)) in
-          absurd (omega arith)
-    ]
 
 module _ (s : Servers) (k : ℕ) (m : List ℕ) where
   abbrev Known : Judgement → Type 0
@@ -302,25 +280,3 @@ module _ (s : Servers) (k : ℕ) (m : List ℕ) where
 
   pub known : (j : Judgement) → j ≡ judge_of s k m → Known j
   known j e = known_by j (subst (JudgeCase s k m) (sym e) (judge_case s k m))
-
-  -- the answer and what is stored, by the judgement
-  pub judge_ends : (j : Judgement) → j ≡ judge_of s k m
-      → (judged_of j ≡ judged_of (judge_of s k m)) × ((nonces_after k j s.nonces ≡ nonces_after k (judge_of s k m) s.nonces)
-      × ((counters_after k j s.counters ≡ counters_after k (judge_of s k m) s.counters)
-      × (row_marks_after k j s.marks ≡ row_marks_after k (judge_of s k m) s.marks)))
-  judge_ends j e = (
-    ap judged_of e,
-    (
-      ap (λ (i : Judgement). nonces_after k i s.nonces) e,
-      (ap (λ (i : Judgement). counters_after k i s.counters) e, ap (λ (i : Judgement). row_marks_after k i s.marks) e),
-    ),
-  )
-
-  -- where the nonce was copied from the message
-  pub taken_ends : (c o : ℕ) (left : List ℕ) → takes c (value_in m o) ≡ judge_of s k m
-      → left ≡ written (16 * k) (take (o + 14 + 16 - (o + 14)) (drop (o + 14) m)) s.nonces
-      → (Accepted 1 c ≡ judged_of (judge_of s k m)) × ((left ≡ nonces_after k (judge_of s k m) s.nonces)
-      × ((set s.counters k 0 ≡ counters_after k (judge_of s k m) s.counters) × (set s.marks k 1 ≡ row_marks_after k (judge_of s k m) s.marks)))
-  taken_ends c o left e f =
-      let w = judge_ends (takes c (value_in m o)) e in
-      (w.0, (f ∙ ap (λ (x : List ℕ). written (16 * k) x s.nonces) (part (o + 14) m) ∙ w.1.0, w.1.1))

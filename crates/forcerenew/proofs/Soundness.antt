@@ -1,59 +1,36 @@
 -- Laws of server rows: what the loop over the marks keeps, soundness by the code's tests, and that what computes it is the rules' sentence.
 use mathlib.Core.Path.{◌≡◌, refl, sym, ap, ap₂, ◌∙◌}
-use mathlib.Core.Logic.{◌≢◌}
-use mathlib.Core.Bool.{Bool, true, false, ◌&&◌, and-eq-true_iff}
+use mathlib.Core.Bool.{Bool, true, ◌&&◌, and-eq-true_iff}
 use mathlib.Core.List.{List, [], ◌∷◌}
-use Prim.Native.Nat.{ℕ, zero, suc, ◌*◌, ◌/◌, ◌%◌, ◌≤◌, ◌<◌}
+use Prim.Native.Nat.{ℕ, zero, suc, ◌+◌, ◌*◌, ◌/◌, ◌%◌, ◌≤◌, ◌<◌}
+use native.Mathlib.Numerals.{add-one}
 use native.Mathlib.Omega.{arith}
-use borrow.Author.Tests.{eq-eqb, ne_eqb, eqb-true, leb-true, le-leb}
+use borrow.Author.Tests.{eq-eqb, eqb-true, leb-true, le-leb}
 use lib.Dec.{leb, eqb}
-use lib.ListN.{length, get_or, drop, drop_of_length-le}
-use lib.Seq.{drop-cons}
+use lib.ListN.{length, get_or, take}
+use Rattle.std.proofs.lemmas.Bool.Decides.{nat_tests}
 use Rattle.octets.proofs.Comparing.{and_assoc, and_true}
 use Rattle.forcerenew.specs.Rows.{Servers, SoundRows, marks_known, sound_rows, RowsSay}
 
 -- ---- the marks, one after the other
 
-pub known_turn : (s : Bool) (marks : List ℕ) (k : ℕ) → k < length marks
-    → (s && leb (get_or marks k 0) 2 && marks_known (drop (suc k) marks)) ≡ (s && marks_known (drop k marks))
+known_suc : (marks : List ℕ) (k : ℕ) → k < length marks → marks_known (take (suc k) marks) ≡ (marks_known (take k marks) && leb (get_or marks k 0) 2)
 unfolding marks_known
-known_turn s marks k h =
-    and_assoc s (leb (get_or marks k 0) 2) (marks_known (drop (suc k) marks)) ∙ ap (λ (b : Bool). s && b) (sym (rw (drop-cons marks k 0 h)))
+known_suc [] k h = absurd (omega arith)
+known_suc (x ∷ marks) zero h = and_true (leb x 2)
+known_suc (x ∷ marks) (suc k) h =
+    ap (λ (b : Bool). leb x 2 && b) (known_suc marks k (omega arith))
+    ∙ sym (and_assoc (leb x 2) (marks_known (take k marks)) (leb (get_or marks k 0) 2))
 
-pub known_end : (s : Bool) (marks : List ℕ) (k : ℕ) → length marks ≤ k → s ≡ (s && marks_known (drop k marks))
-unfolding marks_known
-known_end s marks k h = rw (drop_of_length-le marks h) (sym (and_true s))
+-- a mark more
+pub known_more : (marks : List ℕ) (k : ℕ) → k < length marks
+    → marks_known (take (k + 1) marks) ≡ (marks_known (take k marks) && leb (get_or marks k 0) 2)
+known_more marks k h = rw add-one (known_suc marks k h)
 
--- ---- soundness, by the tests of `is_sound`: the size of the nonces divides by 16 and gives the number of marks
+-- ---- soundness: the size of the nonces divides by 16 and gives the number of marks
 
-module _ (s : Servers) where
-  abbrev n : ℕ
-  n = length s.marks
-
-  abbrev size : ℕ
-  size = length s.nonces
-
-  nonces_off : size ≢ 16 * n → false ≡ sound_rows s
-  unfolding sound_rows
-  nonces_off h = sym (rw (ne_eqb _ _ h))
-
-  pub not_rows : size % 16 ≢ 0 → false ≡ sound_rows s
-  not_rows h = nonces_off (λ e. h (omega arith))
-
-  pub other_rows : size / 16 ≢ n → false ≡ sound_rows s
-  other_rows h = nonces_off (λ e. h (omega arith))
-
-  module _ (whole : size % 16 ≡ 0) (same : size / 16 ≡ n) where
-    nonces_agree : size ≡ 16 * n
-    nonces_agree = omega arith
-
-    pub other_counters : length s.counters ≢ n → false ≡ sound_rows s
-    unfolding sound_rows
-    other_counters h = sym (rw (eq-eqb _ _ nonces_agree, ne_eqb _ _ h))
-
-    pub by_marks : length s.counters ≡ n → marks_known s.marks ≡ sound_rows s
-    unfolding sound_rows
-    by_marks h = sym (rw (eq-eqb _ _ nonces_agree, eq-eqb _ _ h))
+pub nonces_rows : (size n : ℕ) → eqb size (16 * n) ≡ (eqb (size % 16) 0 && eqb (size / 16) n)
+nonces_rows size n = grind (arith, nat_tests)
 
 -- ---- the rules' sentence
 

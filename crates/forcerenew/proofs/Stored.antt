@@ -4,7 +4,7 @@ use mathlib.Core.Path.{◌≡◌, refl, sym, ap, subst, ◌∙◌}
 use mathlib.Core.Logic.{◌≢◌}
 use mathlib.Core.Bool.{Bool, true, false, true≢false}
 use mathlib.Core.List.{List, ◌++◌}
-use mathlib.Core.Option.{Option, none, some, map, some-injective}
+use Rattle.std.proofs.lemmas.Option.{same_Some}
 use Prim.Native.Nat.{ℕ, ◌+◌, ◌*◌, ◌/◌, ◌%◌, ◌≤◌, ◌<◌}
 use native.Mathlib.Decide.{ℕ_discrete, dec_lt}
 use native.Mathlib.Omega.{arith}
@@ -22,6 +22,7 @@ use Rattle.forcerenew.specs.Judging.{Judgement, takes, knows, renews, refused, n
 use Rattle.forcerenew.specs.Judging.{nonces_after, counters_after, row_marks_after, servers_after}
 use Rattle.forcerenew.proofs.Soundness.{rows_say}
 use Rattle.forcerenew.proofs.Cases.{JudgeCase, judge_replay, judge_renews, judge_case, case_judge, row_there, row_missing, Room, known}
+use Rattle.std.specs.Prelude.{None, Option, Some, option_map}
 
 -- a judgement goes by the rows' soundness and by one row
 pub judge_depends : (a b : Servers) (k : ℕ) (m : List ℕ) → sound_rows a ≡ sound_rows b → server_at a k ≡ server_at b k → judge_of a k m ≡ judge_of b k m
@@ -179,28 +180,28 @@ module _ (s : Servers) (k : ℕ) (m : List ℕ) where
   row_other j n =
       elim (dec_lt j (length s.marks)) [
         | yes l ↦ row_there left j (rw (room_kept s k m) l)
-            ∙ ap some
+            ∙ ap Some
             (same_server _ _ _ _ _ _ (nonces_other j n l (judge_of s k m) refl) (counters_other k j (judge_of s k m) s.counters n)
             (marks_other k j (judge_of s k m) s.marks n))
             ∙ sym (row_there s j l)
         | no l ↦ row_missing left j (rw (room_kept s k m) (omega arith)) ∙ sym (row_missing s j (omega arith))
       ]
 
-  pub row_left_lem : server_at left k ≡ map (row_left (judge_of s k m)) (server_at s k)
+  pub row_left_lem : server_at left k ≡ option_map (row_left (judge_of s k m)) (server_at s k)
   row_left_lem = on (judge_of s k m) refl
     where
-      as_it_was : (o : Option Server) → o ≡ map (λ (w : Server). w) o
-      as_it_was none = refl
-      as_it_was (some w) = refl
+      as_it_was : (o : Option Server) → o ≡ option_map (λ (w : Server). w) o
+      as_it_was None = refl
+      as_it_was (Some w) = refl
 
       -- of a row that is there, by its fields
       by_fields : (x : Judgement) → k < length s.marks → row_at (servers_after k x s) k ≡ row_left x (row_at s k)
-          → server_at (servers_after k x s) k ≡ map (row_left x) (server_at s k)
+          → server_at (servers_after k x s) k ≡ option_map (row_left x) (server_at s k)
       by_fields x l e =
-          row_there (servers_after k x s) k (rw (marks_size k x s.marks) l) ∙ ap some e
-          ∙ ap (map (row_left x)) (sym (row_there s k l))
+          row_there (servers_after k x s) k (rw (marks_size k x s.marks) l) ∙ ap Some e
+          ∙ ap (option_map (row_left x)) (sym (row_there s k l))
 
-      on : (x : Judgement) → x ≡ judge_of s k m → server_at (servers_after k x s) k ≡ map (row_left x) (server_at s k)
+      on : (x : Judgement) → x ≡ judge_of s k m → server_at (servers_after k x s) k ≡ option_map (row_left x) (server_at s k)
       on (knows c) e = as_it_was (server_at s k)
       on (refused r) e = as_it_was (server_at s k)
       on (takes c nonce) e =
@@ -286,7 +287,7 @@ same_rows a b e f room same = λ i. record { nonces = nonces i; counters = count
     y = (rows_say.sound b).0 f
 
     row : (k : ℕ) → k < length a.marks → row_at a k ≡ row_at b k
-    row k l = some-injective _ _ (sym (row_there a k l) ∙ same k ∙ row_there b k (omega arith))
+    row k l = same_Some _ _ (sym (row_there a k l) ∙ same k ∙ row_there b k (omega arith))
 
     nonces : a.nonces ≡ b.nonces
     nonces = ext_get_or 0 a.nonces b.nonces (omega (arith, x.nonces_agree, y.nonces_agree)) (λ i l.

@@ -2,13 +2,14 @@
 -- as bytes, so that every offset, size, type and mark shows. The MAC is that of an outside implementation of HMAC-MD5. Then a case for each number, and
 -- where two numbers apply, the one that comes first in the order. The one proof is proofs/Computed.antt.
 use Rattle.std.specs.Prelude.{ℕ, ◌≡◌, true, List, [], ◌∷◌, ◌++◌}
+use Rattle.refusal.specs.Number.{result_number}
 use Rattle.octets.specs.Bytes.{zeros, up_from}
 use Rattle.dhcp_message.specs.Said.{form_of, form_number}
 use Rattle.dhcp_message.specs.Bench.{distinct_of, some_mac}
 use Rattle.forcerenew.specs.Rows.{Servers, servers_of, sound_rows}
 use Rattle.forcerenew.specs.Shown.{gives, orders, shown_of}
-use Rattle.forcerenew.specs.Judging.{takes, knows, renews, judge_of, judged_of, judged_number, servers_after}
-use Rattle.forcerenew.specs.declared.Judged.TheVariants.{Accepted}
+use Rattle.forcerenew.specs.Judging.{takes, knows, renews, judge_of, judged_of, servers_after}
+use Rattle.forcerenew.specs.Judging.{heeding}
 
 -- an option 90 by its type and value, its counter 201 to 208
 abbrev pub nonce_auth : ℕ → List ℕ → List ℕ
@@ -41,7 +42,7 @@ abbrev pub heard_it : Servers
 heard_it = servers_of (up_from 1 32) (7 ∷ shown_counter ∷ []) (0 ∷ 2 ∷ [])
 
 abbrev pub number_for : Servers → ℕ → List ℕ → ℕ
-number_for s k m = judged_number (judged_of (judge_of s k m))
+number_for s k m = result_number (judged_of (judge_of s k m))
 
 pub record NonceExamples : Type 0 where
   -- what the two show; nothing but the MAC is zero in what it covers
@@ -56,12 +57,12 @@ pub record NonceExamples : Type 0 where
   pub same_unheard : judge_of (servers_of (up_from 101 16) (7 ∷ []) (1 ∷ [])) 0 ack ≡ knows shown_counter
   -- but a row with none yet takes it, though these bytes stand there
   pub same_bytes_first : judge_of (servers_of (up_from 101 16) (7 ∷ []) (0 ∷ [])) 0 ack ≡ takes shown_counter (up_from 101 16)
-  pub ack_answer : judged_of (judge_of (rows_with 0 2) 0 ack) ≡ Accepted 1 shown_counter
+  pub ack_answer : judged_of (judge_of (rows_with 0 2) 0 ack) ≡ heeding 1 shown_counter
   -- an order is believed on a row not heard and on a heard one with a lower counter; what is stored
   pub order_believed : judge_of (rows_with 0 2) 1 (order_with right_mac) ≡ renews shown_counter
   pub order_first : judge_of (servers_of (up_from 1 32) (7 ∷ shown_counter ∷ []) (0 ∷ 1 ∷ [])) 1 (order_with right_mac) ≡ renews shown_counter
   pub order_stored : servers_after 1 (judge_of (rows_with 0 1) 1 (order_with right_mac)) (rows_with 0 1) ≡ heard_it
-  pub order_answer : judged_of (judge_of (rows_with 0 2) 1 (order_with right_mac)) ≡ Accepted 2 shown_counter
+  pub order_answer : judged_of (judge_of (rows_with 0 2) 1 (order_with right_mac)) ≡ heeding 2 shown_counter
   -- a case for each number
   pub number_1_nonces : number_for (servers_of (up_from 1 31) (7 ∷ 9 ∷ []) (0 ∷ 2 ∷ [])) 0 ack ≡ 1
   pub number_1_counters : number_for (servers_of (up_from 1 32) (7 ∷ []) (0 ∷ 2 ∷ [])) 0 ack ≡ 1

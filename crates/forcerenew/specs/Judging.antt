@@ -1,8 +1,6 @@
 -- What a judgement answers and what it stores (docs/RULES.md, 'FORCERENEW by nonce'; RFC 6704, section 3.1): 1, then 2 to 7, 10, 19, 20, 21, 11, 12,
 -- the first in this order that applies; else what is done to the named row. Nothing else changes, and a refusal changes nothing.
-use Rattle.std.specs.Prelude.{ℕ, ◌*◌, Bool, true, false, cond, ◌&&◌, List, set}
-use Rattle.std.proofs.Math.Option.{Option, none, some}
-use Rattle.refusal.specs.Number.{number_of, done}
+use Rattle.std.specs.Prelude.{ℕ, ◌*◌, Bool, true, false, cond, ◌&&◌, List, set, Err, None, Ok, Option, Result, Some}
 use Rattle.refusal.specs.declared.Refusal.{Refusal}
 use Rattle.refusal.specs.declared.Refusal.TheVariants.{UnsoundBook, UnknownSecret, Replay, WrongMac, NoNonce}
 use Rattle.octets.specs.Bytes.{written, same_bytes}
@@ -11,8 +9,7 @@ use Rattle.dhcp_message.specs.Replay.{is_new}
 use Rattle.forcerenew.specs.Layout.{value_size, gives_nonce, orders_renewal}
 use Rattle.forcerenew.specs.Rows.{not_heard, heard, Servers, sound_rows, Server, server_at, has_nonce, has_heard}
 use Rattle.forcerenew.specs.Shown.{Shown, unread, unfit, gives, orders, shown_of}
-use Rattle.forcerenew.specs.declared.Judged.{Judged}
-use Rattle.forcerenew.specs.declared.Judged.TheVariants.{Accepted, Refused}
+use Rattle.forcerenew.specs.declared.Heeded.{Heeded}
 
 -- all that a judgement does
 pub data Judgement : Type 0 where
@@ -54,28 +51,27 @@ judged_row w (orders counter mac image) = ordered counter (has_nonce w) (new_to 
 -- 2 to 7, then 10, and then by the row
 abbrev pub judged_shown : Option Server → Shown → Judgement
 judged_shown o (unread r) = refused r
-judged_shown none (unfit r) = refused UnknownSecret
-judged_shown none (gives counter nonce) = refused UnknownSecret
-judged_shown none (orders counter mac image) = refused UnknownSecret
-judged_shown (some w) (unfit r) = judged_row w (unfit r)
-judged_shown (some w) (gives counter nonce) = judged_row w (gives counter nonce)
-judged_shown (some w) (orders counter mac image) = judged_row w (orders counter mac image)
+judged_shown None (unfit r) = refused UnknownSecret
+judged_shown None (gives counter nonce) = refused UnknownSecret
+judged_shown None (orders counter mac image) = refused UnknownSecret
+judged_shown (Some w) (unfit r) = judged_row w (unfit r)
+judged_shown (Some w) (gives counter nonce) = judged_row w (gives counter nonce)
+judged_shown (Some w) (orders counter mac image) = judged_row w (orders counter mac image)
 
 unfoldable pub judge_of : Servers → ℕ → List ℕ → Judgement
 judge_of s k m = cond (sound_rows s) (judged_shown (server_at s k) (shown_of m)) (refused UnsoundBook)
 
 -- ---- what is returned
 
-abbrev pub judged_of : Judgement → Judged
-judged_of (takes counter nonce) = Accepted gives_nonce counter
-judged_of (knows counter) = Accepted gives_nonce counter
-judged_of (renews counter) = Accepted orders_renewal counter
-judged_of (refused r) = Refused r
+-- accepted, with option 90's type and the message's counter
+abbrev pub heeding : (kind counter : ℕ) → Result Heeded Refusal
+heeding kind counter = Ok (record { kind = kind; counter = counter })
 
--- its number
-abbrev pub judged_number : Judged → ℕ
-judged_number (Accepted kind counter) = done
-judged_number (Refused r) = number_of r
+abbrev pub judged_of : Judgement → Result Heeded Refusal
+judged_of (takes counter nonce) = heeding gives_nonce counter
+judged_of (knows counter) = heeding gives_nonce counter
+judged_of (renews counter) = heeding orders_renewal counter
+judged_of (refused r) = Err r
 
 -- ---- what is stored in row k
 

@@ -1,14 +1,13 @@
 -- The offsets in the words of the options (docs/RULES.md, 'FORCERENEW by nonce'): a message that passes 2 to 7 is its header, the options before option
 -- 90, option 90, those behind it, End and the rest; and what is read or zeroed by its offset from option 90's code is read or zeroed in option 90's body.
 -- The one proof is proofs/Offsets.antt.
-use Rattle.std.specs.Prelude.{ℕ, ◌+◌, ◌-◌, ◌≡◌, List, ◌∷◌, ◌++◌, length, get_or, take, drop}
+use Rattle.std.specs.Prelude.{ℕ, ◌+◌, ◌-◌, ◌≡◌, List, ◌∷◌, ◌++◌, length, get_or, take, drop, Ok}
 use Rattle.octets.specs.Bytes.{Bytes, written, zeros}
 use Rattle.octets.specs.Numbers.{big_at}
 use Rattle.dhcp_message.specs.Layout.{header_size, end_code, auth_code, option_head, length_at, method_at, counter_at, counter_size}
 use Rattle.dhcp_message.specs.Options.{Token, opt, encode, Reads}
 use Rattle.dhcp_message.specs.Shape.{shape_of}
 use Rattle.dhcp_message.specs.declared.Places.{Places}
-use Rattle.dhcp_message.specs.declared.Shape.TheVariants.{Passed}
 use Rattle.forcerenew.specs.Layout.{type_at, value_at, value_size, nonce_length, by_nonce}
 use Rattle.forcerenew.specs.Shown.{counter_in, type_in, value_in, image_at}
 
@@ -36,4 +35,4 @@ pub record Parts (m : List ℕ) (o : ℕ) : Type 0 where
       → image_at m o ≡ message_with (take header_size m) front (written (value_at - option_head) (zeros value_size) body) back rest
 
 pub record OffsetsSay : Type 0 where
-  pub parts : (m : List ℕ) → Bytes m → (p : Places) → shape_of m ≡ Passed p → Parts m p.at
+  pub parts : (m : List ℕ) → Bytes m → (p : Places) → shape_of m ≡ Ok p → Parts m p.at

@@ -1,5 +1,6 @@
 pub mod Layout
 pub mod Rows
+pub mod Lent
 pub mod Shown
 pub mod Judging
 pub mod Plans

@@ -1,7 +1,7 @@
 -- Server rows as they are lent (docs/RULES.md, 'FORCERENEW by nonce'): for each server the nonce that it gave, the counter of its last FORCERENEW, and a
 -- mark. The marks are not those of a key book's rows. `SoundRows` is the rules' sentence and `sound_rows` computes it; that they agree is `RowsSay`.
-use Rattle.std.specs.Prelude.{ℕ, ◌*◌, ◌≤◌, ◌<◌, ◌≡◌, ◌↔◌, Bool, true, cond, ◌&&◌, not, List, [], ◌∷◌, leb, ltb, eqb, length, get_or, take, drop}
-use Rattle.std.proofs.Math.Option.{Option, none, some}
+use Rattle.std.specs.Prelude.{ℕ, ◌*◌, ◌≤◌, ◌<◌, ◌≡◌, ◌↔◌, leb, ltb, eqb, Bool, true, cond, ◌&&◌, not, None, Option, Some}
+use Rattle.std.specs.Prelude.{List, [], ◌∷◌, length, get_or, take, drop}
 use Rattle.forcerenew.specs.Layout.{value_size}
 
 -- a row's mark: no nonce yet; a nonce, and nothing heard under it; a FORCERENEW was accepted under it
@@ -57,7 +57,7 @@ row_at s k = record { nonce = nonce_at s k; counter = get_or s.counters k 0; mar
 
 -- row k, where there is one
 unfoldable pub server_at : Servers → ℕ → Option Server
-server_at s k = cond (ltb k (length s.marks)) (some (row_at s k)) none
+server_at s k = cond (ltb k (length s.marks)) (Some (row_at s k)) None
 
 -- whether a row has a nonce, and whether a FORCERENEW was accepted under it
 abbrev pub has_nonce : Server → Bool

@@ -1,6 +1,6 @@
 -- What a message shows to authentication by a nonce (RFC 6704, section 3.1.2; docs/RULES.md, 'FORCERENEW by nonce'): a refusal; a nonce and a counter;
 -- or a counter, a MAC, and the bytes that the MAC covers. Everything stands by its offset from option 90's code.
-use Rattle.std.specs.Prelude.{ℕ, ◌+◌, Bool, true, false, cond, ◌&&◌, ◌||◌, List, eqb, get_or, take, drop}
+use Rattle.std.specs.Prelude.{ℕ, ◌+◌, Bool, true, false, cond, ◌&&◌, ◌||◌, List, eqb, get_or, take, drop, Err, None, Ok, Option, Result, Some}
 use Rattle.refusal.specs.declared.Refusal.{Refusal}
 use Rattle.refusal.specs.declared.Refusal.TheVariants.{NotByNonce, WrongType}
 use Rattle.octets.specs.Bytes.{written, zeros, starts}
@@ -8,11 +8,8 @@ use Rattle.octets.specs.Numbers.{big_at}
 use Rattle.dhcp_message.specs.Layout.{length_at, method_at, counter_at, counter_size}
 use Rattle.dhcp_message.specs.Shape.{shape_of}
 use Rattle.dhcp_message.specs.Types.{message_type_of}
-use Rattle.dhcp_message.specs.declared.Shape.{Shape}
-use Rattle.dhcp_message.specs.declared.Shape.TheVariants.{Refused, Passed}
-use Rattle.dhcp_message.specs.declared.MessageType.{MessageType}
-use Rattle.dhcp_message.specs.declared.MessageType.TheVariants.{Stated, Unstated}
 use Rattle.forcerenew.specs.Layout.{type_at, value_at, value_size, nonce_length, by_nonce, gives_nonce, orders_renewal, ack_type, forcerenew_type}
+use Rattle.dhcp_message.specs.declared.Places.{Places}
 
 pub data Shown : Type 0 where
   -- 2 to 7
@@ -42,9 +39,9 @@ abbrev pub form_fits : List ℕ → ℕ → Bool
 form_fits m o = eqb (get_or m (o + length_at) 0) nonce_length && starts by_nonce (drop (o + method_at) m)
 
 -- 20: a nonce goes with an ACK, a MAC with a FORCERENEW, and nothing else goes with anything
-unfoldable pub goes_with : ℕ → MessageType → Bool
-goes_with type Unstated = false
-goes_with type (Stated stated) = (eqb type gives_nonce && eqb stated ack_type) || (eqb type orders_renewal && eqb stated forcerenew_type)
+unfoldable pub goes_with : ℕ → Option ℕ → Bool
+goes_with type None = false
+goes_with type (Some stated) = (eqb type gives_nonce && eqb stated ack_type) || (eqb type orders_renewal && eqb stated forcerenew_type)
 
 -- by what goes with option 53
 abbrev pub shown_typed : List ℕ → ℕ → Bool → Shown
@@ -60,9 +57,9 @@ unfoldable pub shown_at : List ℕ → ℕ → Shown
 shown_at m o = shown_formed m o (form_fits m o)
 
 -- by what checks 2 to 7 give
-abbrev pub shown_in : List ℕ → Shape → Shown
-shown_in m (Refused r) = unread r
-shown_in m (Passed p) = shown_at m p.at
+abbrev pub shown_in : List ℕ → Result Places Refusal → Shown
+shown_in m (Err r) = unread r
+shown_in m (Ok p) = shown_at m p.at
 
 unfoldable pub shown_of : List ℕ → Shown
 shown_of m = shown_in m (shape_of m)

@@ -1,138 +1,93 @@
 // The judgement: 1, 2 to 7, 10, 19, 20, 21, 11, 12, and what is then stored. docs/RULES.md, 'FORCERENEW by nonce'; RFC 6704, section 3.1.
-ghost use Rattle.std.specs.Prelude.{◌≡◌, ◌+◌, ◌*◌, ◌≤◌, ◌<◌, true, [], length, get_or};
-ghost use Rattle.hmac_md5.specs.Hmac.{hmac, key_most};
+ghost use Rattle.std.specs.Prelude.{◌≡◌, ◌+◌, ◌≤◌, ◌<◌, IfOk, length, get_or};
+ghost use Rattle.hmac_md5.specs.Hmac.{hmac};
 ghost use Rattle.dhcp_message.specs.Layout.{message_most, option_head, length_at};
-ghost use Rattle.forcerenew.specs.Layout.{value_size, nonce_option};
-ghost use Rattle.forcerenew.specs.Rows.{servers_of, sound_rows, row_at};
-ghost use Rattle.forcerenew.specs.Shown.{value_in, image_at, shown_at, orders};
+ghost use Rattle.forcerenew.specs.Layout.{nonce_option};
+ghost use Rattle.forcerenew.specs.Rows.{servers_of, SoundRows};
+ghost use Rattle.forcerenew.specs.Lent.{servers_in, server_in};
+ghost use Rattle.forcerenew.specs.Shown.{image_at, shown_at, orders};
 ghost use Rattle.forcerenew.specs.Judging.{given, known_to, judged_row, judge_of, judged_of, nonces_after, counters_after, row_marks_after};
 ghost use Rattle.forcerenew.specs.Plans.{planned_as};
 
 use crate::layout::{GIVES_NONCE, NONCE_SIZE, ORDERS_RENEWAL, VALUE_AT};
-use crate::rows::{HEARD, NONE_YET, NOT_HEARD, is_sound};
+use crate::rows::{HEARD, LentServer, LentServers, NONE_YET, NOT_HEARD};
 use crate::shown::shown_at;
-use crate::{Judged, Plan, Shows};
-use dhcp_message::Shape;
+use crate::{Heeded, Nonce, Plan, Shows};
 use refusal::Refusal;
 
 // The MAC of a FORCERENEW under a nonce: over the message with the MAC zero and nothing else altered. Hops and giaddr are covered as they stand, and so is
-// an option 82, unlike delayed authentication's image.
-fn mac_of(nonce: &[u8], message: &[u8], at: usize) -> [u8; 16]
-    requires nonce_len_bound { length nonce.now ≤ key_most }
-    requires message_len_bound { (length message.now ≤ message_most) × (at + nonce_option ≤ length message.now) }
-    ensures { result ≡ hmac nonce.now (image_at message.now at) }
+// an option 82, unlike delayed authentication's image. The copy has a room of its own, of a fixed size: nothing is allocated.
+// That the message is no longer than the room stands in three contracts: a type for it would be made in `planned` and read here alone.
+#[tactic(auto, using(crate::proofs::Leaves::mac_taken))]
+fn mac_of(nonce: Nonce, message: &[u8], at: usize) -> [u8; NONCE_SIZE]
+    requires { (length message.now ≤ message_most) × (at + nonce_option ≤ length message.now) }
+    ensures { result ≡ hmac nonce.entry.bytes.now (image_at message.now at) }
 {
-    let mut image = [0u8; dhcp_message::MESSAGE_MOST];
-    octets::copy(message, &mut image, 0);
-    octets::clear(&mut image, at + VALUE_AT, NONCE_SIZE);
-    let answer = hmac_md5::hmac(nonce, &image[..message.len()]);
-    answer.mac
+    let mut room = [0u8; dhcp_message::MESSAGE_MOST];
+    let image = &mut room[..message.len()];
+    image.copy_from_slice(message);
+    octets::clear(image, at + VALUE_AT, NONCE_SIZE);
+    hmac_md5::hmac(nonce.bytes, image).unwrap()
 }
 
 // A nonce that is given: whether the row has it already. The row's counter is not looked at.
-fn given_nonce(
-    nonces: &[u8],
-    marks: &[u8],
-    row: usize,
-    message: &[u8],
-    at: usize,
-    counter: u64,
-) -> Plan
-    requires row_in_bounds { (row < length marks.now) × (value_size * row + value_size ≤ length nonces.now) }
-    requires nonce_option_in_bounds { at + nonce_option ≤ length message.now }
-    ensures { let w = row_at (servers_of nonces.now [] marks.now) row in
-        let m = message.now in
-        planned_as m result ≡ given counter (value_in m at) (known_to w (value_in m at)) }
+fn given_nonce<'m>(server: LentServer, counter: u64, nonce: Nonce<'m>) -> Result<Plan<'m>, Refusal>
+    ensures { planned_as result ≡ given counter nonce.entry.bytes.now (known_to (server_in server.entry) nonce.entry.bytes.now) }
 {
-    if marks[row] == NONE_YET {
-        return Plan::Takes(at, counter);
+    if server.mark != NONE_YET && octets::same(nonce.bytes, server.nonce.bytes) {
+        return Ok(Plan::Knows { counter });
     }
-    let from = NONCE_SIZE * row;
-    let value = at + VALUE_AT;
-    if octets::same(
-        &message[value..value + NONCE_SIZE],
-        &nonces[from..from + NONCE_SIZE],
-    ) {
-        return Plan::Knows(counter);
-    }
-    Plan::Takes(at, counter)
+    Ok(Plan::Takes { counter, nonce })
 }
 
 // An order to renew: 21, 11, 12. The counter is looked at before the MAC is computed, as in a check.
-fn ordered_renewal(
-    nonces: &[u8],
-    counters: &[u64],
-    marks: &[u8],
-    row: usize,
-    message: &[u8],
-    at: usize,
+fn ordered_renewal<'m>(
+    server: LentServer,
     counter: u64,
-) -> Plan
-    requires row_in_bounds { (row < length marks.now) × (row < length counters.now) × (value_size * row + value_size ≤ length nonces.now) }
-    requires message_len_bound { (length message.now ≤ message_most) × (at + nonce_option ≤ length message.now) }
-    ensures { let w = row_at (servers_of nonces.now counters.now marks.now) row in
-        let m = message.now in
-        planned_as m result ≡ judged_row w (orders counter (value_in m at) (image_at m at)) }
+    mac: &[u8],
+    message: &'m [u8],
+    at: usize,
+) -> Result<Plan<'m>, Refusal>
+    requires { (length message.now ≤ message_most) × (at + nonce_option ≤ length message.now) }
+    ensures { planned_as result ≡ judged_row (server_in server.entry) (orders counter mac.now (image_at message.now at)) }
 {
-    if marks[row] == NONE_YET {
-        return Plan::NotDone(Refusal::NoNonce);
+    if server.mark == NONE_YET {
+        return Err(Refusal::NoNonce);
     }
-    let heard = marks[row] == HEARD;
-    if !dhcp_message::is_new(heard, counters[row], counter) {
-        return Plan::NotDone(Refusal::Replay);
+    if !dhcp_message::is_new(server.mark == HEARD, server.counter, counter) {
+        return Err(Refusal::Replay);
     }
-    let from = NONCE_SIZE * row;
-    let mac = mac_of(&nonces[from..from + NONCE_SIZE], message, at);
-    let value = at + VALUE_AT;
-    if !octets::same(&message[value..value + NONCE_SIZE], &mac) {
-        return Plan::NotDone(Refusal::WrongMac);
+    if !octets::same(mac, &mac_of(server.nonce, message, at)) {
+        return Err(Refusal::WrongMac);
     }
-    Plan::Renews(counter)
+    Ok(Plan::Renews { counter })
 }
 
 // From 19 on in the order, for a row that is there and an option 90 that is whole.
-fn planned_at(
-    nonces: &[u8],
-    counters: &[u64],
-    marks: &[u8],
-    row: usize,
-    message: &[u8],
-    at: usize,
-) -> Plan
-    requires marks_value { (sound_rows (servers_of nonces.now counters.now marks.now) ≡ true) × (row < length marks.now) }
-    requires message_len_bound { (length message.now ≤ message_most) × (at + option_head + get_or message.now (at + length_at) 0 ≤ length message.now) }
-    ensures { let w = row_at (servers_of nonces.now counters.now marks.now) row in
-        let m = message.now in
-        planned_as m result ≡ judged_row w (shown_at m at) }
+fn planned_at<'m>(server: LentServer, message: &'m [u8], at: usize) -> Result<Plan<'m>, Refusal>
+    requires { (length message.now ≤ message_most) × (at + option_head + get_or message.now (at + length_at) 0 ≤ length message.now) }
+    ensures { planned_as result ≡ judged_row (server_in server.entry) (shown_at message.now at) }
 {
-    let shown = shown_at(message, at);
-    match shown {
-        Shows::Unfit(refusal) => Plan::NotDone(refusal),
-        Shows::Gives(counter) => given_nonce(nonces, marks, row, message, at, counter),
-        Shows::Orders(counter) => ordered_renewal(
-            nonces, counters, marks, row, message, at, counter,
-        ),
+    match shown_at(message, at)? {
+        Shows::Gives { counter, nonce } => given_nonce(server, counter, nonce),
+        Shows::Orders { counter, mac } => ordered_renewal(server, counter, mac, message, at),
     }
 }
 
 // The whole order, nothing stored.
-fn planned(nonces: &[u8], counters: &[u64], marks: &[u8], row: usize, message: &[u8]) -> Plan
-    ensures { let s = servers_of nonces.now counters.now marks.now in
-        planned_as message.now result ≡ judge_of s row message.now }
+#[tactic(auto, using(crate::proofs::Cases::planned_laws), unfolding(crate::specs::Judging::judge_of, crate::specs::Shown::shown_of))]
+fn planned<'m>(servers: LentServers, row: usize, message: &'m [u8]) -> Result<Plan<'m>, Refusal>
+    ensures planned { planned_as result ≡ judge_of (servers_in servers.entry) row message.now }
+    ensures room { IfOk result (λ plan. SoundRows (servers_in servers.entry) × (row < length servers.entry.marks.now)) }
 {
-    if !is_sound(nonces, counters, marks) {
-        return Plan::NotDone(Refusal::UnsoundBook);
+    if !servers.is_sound() {
+        return Err(Refusal::UnsoundBook);
     }
-    let shape = dhcp_message::shape_of(message);
-    match shape {
-        Shape::Refused(refusal) => Plan::NotDone(refusal),
-        Shape::Passed(places) => {
-            if marks.len() <= row {
-                return Plan::NotDone(Refusal::UnknownSecret);
-            }
-            planned_at(nonces, counters, marks, row, message, places.at)
-        }
+    let places = dhcp_message::shape_of(message)?;
+    if servers.marks.len() <= row {
+        return Err(Refusal::UnknownSecret);
     }
+    planned_at(servers.row(row), message, places.at)
 }
 
 // Judges a message from the server of a row, and where it is accepted stores its nonce, or its counter, and the row's mark.
@@ -142,7 +97,7 @@ pub fn judge(
     marks: &mut [u8],
     row: usize,
     message: &[u8],
-) -> Judged
+) -> Result<Heeded, Refusal>
     ensures answer { let s = servers_of nonces.old counters.old marks.old in
         result ≡ judged_of (judge_of s row message.now) }
     ensures nonces { let s = servers_of nonces.old counters.old marks.old in
@@ -152,25 +107,33 @@ pub fn judge(
     ensures marks { let s = servers_of nonces.old counters.old marks.old in
         marks.new ≡ row_marks_after row (judge_of s row message.now) marks.old }
 {
-    let plan = planned(nonces, counters, marks, row, message);
+    let servers = LentServers {
+        nonces: &*nonces,
+        counters: &*counters,
+        marks: &*marks,
+    };
+    let plan = planned(servers, row, message)?;
     match plan {
-        Plan::Takes(at, counter) => {
-            let value = at + VALUE_AT;
-            octets::copy(
-                &message[value..value + NONCE_SIZE],
-                nonces,
-                NONCE_SIZE * row,
-            );
+        Plan::Takes { counter, nonce } => {
+            octets::copy(nonce.bytes, nonces, NONCE_SIZE * row);
             counters[row] = 0;
             marks[row] = NOT_HEARD;
-            Judged::Accepted(GIVES_NONCE, counter)
+            Ok(Heeded {
+                kind: GIVES_NONCE,
+                counter,
+            })
         }
-        Plan::Knows(counter) => Judged::Accepted(GIVES_NONCE, counter),
-        Plan::Renews(counter) => {
+        Plan::Knows { counter } => Ok(Heeded {
+            kind: GIVES_NONCE,
+            counter,
+        }),
+        Plan::Renews { counter } => {
             counters[row] = counter;
             marks[row] = HEARD;
-            Judged::Accepted(ORDERS_RENEWAL, counter)
+            Ok(Heeded {
+                kind: ORDERS_RENEWAL,
+                counter,
+            })
         }
-        Plan::NotDone(refusal) => Judged::Refused(refusal),
     }
 }

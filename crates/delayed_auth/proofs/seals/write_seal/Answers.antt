@@ -29,10 +29,6 @@ pub mac_of-mac-requires : goal.mac_of-mac-requires
 mac_of-mac-requires c =
     ((first (goal.at.mac_of-mac-requires c).After-put_fields).form, c.requires.1)
 
-pub slice_bounds-put_mac-end : goal.slice_bounds-put_mac-end
-slice_bounds-put_mac-end c =
-    omega (arith, (first (goal.at.slice_bounds-put_mac-end c).After-put_fields).size, (form (goal.at.slice_bounds-put_mac-end c).Start).inside)
-
 pub returns : goal.returns
 returns c =
     (first (goal.at.returns c).After-put_fields).sealed _ _ _ (search rules) c.mac_of-mac.ensures c.put_mac.ensures
