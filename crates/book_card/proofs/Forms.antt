@@ -40,14 +40,10 @@ unfolding row_kind
 kind_no_close Old e = omega arith
 kind_no_close New e = omega arith
 
--- the bytes of the marks of so many rows: none in the old form, and one for each in the new
+-- the bytes of the marks of so many rows: none in the old form, and in neither more than one for each
 pub marks_old : (rows : ℕ) → 0 ≡ mark_size Old * rows
 unfolding mark_size
 marks_old rows = omega arith
-
-pub marks_new : (rows : ℕ) → rows ≡ mark_size New * rows
-unfolding mark_size
-marks_new rows = omega arith
 
 pub marks_few : (form : CardForm) (rows : ℕ) → mark_size form * rows ≤ rows
 unfolding mark_size
@@ -59,28 +55,12 @@ pub record_most_lem : record_most ≡ key_at New + slot_size
 unfolding mark_size
 record_most_lem = refl
 
--- what `mark_size` and `row_kind` answer
-pub size_old : 0 ≡ mark_size Old
-unfolding mark_size
-size_old = refl
-
+-- what `mark_size` answers
 pub size_new : 1 ≡ mark_size New
 unfolding mark_size
 size_new = refl
 
-pub kind_old : 1 ≡ row_kind Old
-unfolding row_kind
-kind_old = refl
-
-pub kind_new : 3 ≡ row_kind New
-unfolding row_kind
-kind_new = refl
-
 -- ---- the mark of the row in front
-
-pub mark_old : (s : List ℕ) → heard ≡ mark_in Old s
-unfolding mark_in
-mark_old s = refl
 
 -- at a place of a card
 pub mark_new : (card : List ℕ) (at x : ℕ) → x ≡ little_at card (at + mark_at) 1 → x ≡ mark_in New (drop at card)

@@ -40,13 +40,7 @@ module _ (form : CardForm) (card : List ℕ) (at : ℕ) where
   -- ---- a row, by its length field
 
   module _ (size : ℕ) where
-    pub row_short : size < row_from form → Broken ≡ row_by form here size
-    row_short l = rw (lt-ltb size (row_from form) l)
-
     module _ (l : row_from form ≤ size) where
-      pub row_long : row_to form < size → Broken ≡ row_by form here size
-      row_long m = rw (le-ltb size (row_from form) l, lt-ltb (row_to form) size m)
-
       -- the mark and the received counter, as they were read, and whether they go together
       module _
           (m : size ≤ row_to form) (mark received p : ℕ) (f : mark ≡ mark_in form here) (ep : p ≡ at + received_at form)

@@ -5,6 +5,7 @@ pub mod Shape
 pub mod Causes
 pub mod Steps
 pub mod Says
+pub mod Turns
 pub mod Counting
 pub mod Slots
 pub mod Loads

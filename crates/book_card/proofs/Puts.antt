@@ -21,11 +21,11 @@ use Rattle.book_card.specs.Layout.{length_size, kind_size, id_size, mark_size, c
 use Rattle.book_card.specs.Layout.{kind_at, body_at, mark_at, received_at, sent_at, key_at, close_size}
 use Rattle.book_card.specs.Card.{Row, row_with, empty_row, row_record, close, card_of}
 use Rattle.book_card.specs.Writing.{rows_of, size_to, record_put, close_put, write_of, room_after}
-use Rattle.book_card.specs.declared.WriteAnswer.{WriteAnswer}
-use Rattle.book_card.specs.declared.WriteAnswer.TheVariants.{Refused, Size}
 use Rattle.book_card.proofs.Shape.{row_fields, row_fields_lem, row_size, close_fields, close_fields_lem, close_size_lem}
 use Rattle.book_card.proofs.Writes.{row_is, rows_count, rest_from, rest_all, rest_next, rest_last, rest_length, card_size}
-use Rattle.book_card.proofs.Ends.{unsound, small, wrote, case_write}
+use Rattle.book_card.proofs.Ends.{unsound, small, wrote, case_write, clauses}
+use Rattle.std.specs.Prelude.{Err, Ok, Result}
+use Rattle.refusal.specs.declared.Refusal.{Refusal}
 
 -- ---- a record
 
@@ -165,23 +165,23 @@ rows_in_lem b s =
     (omega arith, s.rows_few)
 
 module _ (b : Book) (room : List ℕ) where
-  abbrev Ends : WriteAnswer → List ℕ → Type 0
-  Ends answer after = (answer ≡ write_of b (length room)) × (after ≡ room_after b room)
+  abbrev Ends : Result ℕ Refusal → List ℕ → Type 0
+  Ends a d = record { answer : a ≡ write_of b (length room); after : d ≡ room_after b room }
 
   module _ (t : Bool) (e : t ≡ sound b) where
-    pub write_unsound : not t ≡ true → Ends (Refused UnsoundBook) room
-    write_unsound h = case_write b room (unsound (λ s. true≢false (sym ((sound_says b).1 s) ∙ sym e ∙ not-true t h)))
+    pub write_unsound : not t ≡ true → Ends (Err UnsoundBook) room
+    write_unsound h = clauses (case_write b room (unsound (λ s. true≢false (sym ((sound_says b).1 s) ∙ sym e ∙ not-true t h))))
 
     module _ (h : not t ≡ false) (size : ℕ) (z : size ≡ size_to b.lengths b.rows) where
       pub size_is : length (card_of New (rows_of b)) ≡ size
       size_is = card_size b (told_sound b t e h) ∙ sym z
 
-      pub write_no_room : length room < size → Ends (Refused NoRoomForCard) room
-      write_no_room l = case_write b room (small (told_sound b t e h) (rw size_is l))
+      pub write_no_room : length room < size → Ends (Err NoRoomForCard) room
+      write_no_room l = clauses (case_write b room (small (told_sound b t e h) (rw size_is l)))
 
-      pub write_done : size ≤ length room → (after : List ℕ) → after ≡ written 0 (card_of New (rows_of b)) room → Ends (Size size) after
+      pub write_done : size ≤ length room → (after : List ℕ) → after ≡ written 0 (card_of New (rows_of b)) room → Ends (Ok size) after
       write_done l after f =
-          rw (f ∙ written_front (card_of New (rows_of b)) room, ← size_is) (case_write b room (wrote (told_sound b t e h) (rw size_is l)))
+          rw (f ∙ written_front (card_of New (rows_of b)) room, ← size_is) (clauses (case_write b room (wrote (told_sound b t e h) (rw size_is l))))
 
 -- ---- a record where it has its place
 

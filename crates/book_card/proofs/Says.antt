@@ -3,7 +3,6 @@
 -- By induction on the rows one way, and on the rows still allowed the other way; each step is the record in front (proofs/Shape.antt).
 use mathlib.Core.Path.{◌≡◌, refl, sym, ap, ap₂, ◌∙◌}
 use mathlib.Core.Bool.{Bool, true, false, cond}
-use mathlib.Core.Option.{Option, none, some}
 use mathlib.Core.List.{List, [], ◌∷◌, ◌++◌, append-nil}
 use Prim.Native.Nat.{ℕ, zero, suc, ◌+◌, ◌-◌, ◌^◌, ◌≤◌, ◌<◌}
 use native.Mathlib.Nat.{add-zero}
@@ -27,6 +26,7 @@ use Rattle.book_card.proofs.Forms.{form_kind}
 use Rattle.book_card.proofs.Steps.{go_on, on_none, on_more, front_step, in_front_lem, read_is}
 use Rattle.book_card.proofs.Shape.{close_size_lem, records_cons, records_none, card_is, row_read, front_of_row, row_of_front, front_of_close}
 use Rattle.book_card.proofs.Shape.{GoodRow, GoodClose, FrontGood, front_good}
+use Rattle.std.specs.Prelude.{None, Option, Some}
 
 module _ (form : CardForm) where
   -- rows that fit, with ids that ascend strictly from `low` on
@@ -220,29 +220,29 @@ pub record Closed (f : FrontRows) (rows : List Row) : Type 0 where
   pub those : f.rows ≡ rows
   pub ended_closed : f.ends ≡ closed
 
-card_closed : (f : FrontRows) (rows : List Row) → card_in f ≡ some rows → Closed f rows
+card_closed : (f : FrontRows) (rows : List Row) → card_in f ≡ Some rows → Closed f rows
 card_closed f rows e = on f.ends refl e
   where
-    on : (x : CardEnd) → f.ends ≡ x → rows_by f.rows x ≡ some rows → Closed f rows
+    on : (x : CardEnd) → f.ends ≡ x → rows_by f.rows x ≡ Some rows → Closed f rows
     on closed p q = record { those = cc; ended_closed = p }
     on fault p q = absurd (let z : ◌≡◌ {A = ℕ} 0 1 = cc in omega arith)
 
 -- what is read in a form is a card of that form
-pub front_card : (form : CardForm) (s : List ℕ) → Bytes s → (rows : List Row) → card_in (rows_in_front form s) ≡ some rows → IsCard form rows s
+pub front_card : (form : CardForm) (s : List ℕ) → Bytes s → (rows : List Row) → card_in (rows_in_front form s) ≡ Some rows → IsCard form rows s
 front_card form s h rows e =
     let c = card_closed (rows_in_front form s) rows e in
     let f = front_says form s h in
     record { order = rw (← c.those) f.order; bytes = f.ends_closed.0 c.ended_closed ∙ ap (card_of form) c.those }
 
 -- a card of no rows is the same in both forms, and read alike
-none_read_so : (form other : CardForm) → card_in (rows_in_front other (card_of form [])) ≡ some []
+none_read_so : (form other : CardForm) → card_in (rows_in_front other (card_of form [])) ≡ Some []
 none_read_so form other =
     ap (λ (s : List ℕ). card_in (rows_in_front other s))
     (card_is form [] ∙ records_none form (close 0) ∙ sym (card_is other [] ∙ records_none other (close 0)))
     ∙ ap card_in (reads_card other [] (record { few = omega arith; fit = λ k h. absurd (omega arith); ascend = λ j k l h. absurd (omega arith) }))
 
 -- a card is read in the form that its first record shows
-card_read : (form : CardForm) (rows : List Row) → InOrder form rows → card_in (rows_in_front (form_in (card_of form rows)) (card_of form rows)) ≡ some rows
+card_read : (form : CardForm) (rows : List Row) → InOrder form rows → card_in (rows_in_front (form_in (card_of form rows)) (card_of form rows)) ≡ Some rows
 card_read form [] o = none_read_so form (form_in (card_of form []))
 card_read form (r ∷ rows) o =
     let s = card_of form (r ∷ rows) in
@@ -259,12 +259,12 @@ card_says s h rows = (
 )
 
 -- bytes of which no rows are read read as none
-none_read : (s : List ℕ) → ((rows : List Row) → read_card s ≡ some rows → ⊥) → read_card s ≡ none
+none_read : (s : List ℕ) → ((rows : List Row) → read_card s ≡ Some rows → ⊥) → read_card s ≡ None
 none_read s k = on (read_card s) refl
   where
-    on : (o : Option (List Row)) → read_card s ≡ o → read_card s ≡ none
-    on none e = e
-    on (some rows) e = absurd (k rows e)
+    on : (o : Option (List Row)) → read_card s ≡ o → read_card s ≡ None
+    on None e = e
+    on (Some rows) e = absurd (k rows e)
 
 pub malformed_says : MalformedSays
 malformed_says s h = (

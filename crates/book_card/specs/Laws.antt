@@ -1,6 +1,5 @@
 -- What is proved of the reader, each as a closed statement: docs/RULES.md, 'The card'. The proofs are in proofs/Says.antt.
-use Rattle.std.specs.Prelude.{◌≡◌, ◌↔◌, List, ◌++◌, length, take, ℕ}
-use Rattle.std.proofs.Math.Option.{none, some}
+use Rattle.std.specs.Prelude.{◌≡◌, ◌↔◌, List, ◌++◌, length, take, ℕ, None, Some}
 use Rattle.octets.specs.Bytes.{Bytes}
 use Rattle.book_card.specs.declared.CardForm.{CardForm}
 use Rattle.book_card.specs.Card.{Row, row_records, card_of, InOrder, CardFor, NoCard}
@@ -19,8 +18,8 @@ FrontSays = (form : CardForm) (s : List ℕ) → Bytes s → InFront form s (row
 
 -- the reader finds rows exactly where the bytes are the card of those rows in either form
 abbrev pub CardSays : Type 0
-CardSays = (s : List ℕ) → Bytes s → (rows : List Row) → (read_card s ≡ some rows) ↔ CardFor rows s
+CardSays = (s : List ℕ) → Bytes s → (rows : List Row) → (read_card s ≡ Some rows) ↔ CardFor rows s
 
 -- so bytes are malformed exactly where they are the card of no rows in either form
 abbrev pub MalformedSays : Type 0
-MalformedSays = (s : List ℕ) → Bytes s → (read_card s ≡ none) ↔ NoCard s
+MalformedSays = (s : List ℕ) → Bytes s → (read_card s ≡ None) ↔ NoCard s

@@ -1,6 +1,8 @@
 pub mod Layout
 pub mod Card
+pub mod Lent
 pub mod Reader
+pub mod Walk
 pub mod Faults
 pub mod Reading
 pub mod Writing

@@ -1,8 +1,7 @@
 -- The reader of a card, computed: which form its rows have, what record stands in front, the rows in front and how they end, and the rows of a whole
 -- card.
 -- What it means is in specs/Card.antt; that it agrees is stated in specs/Laws.antt.
-use Rattle.std.specs.Prelude.{Bool, true, false, cond, ◌&&◌, ◌||◌, ℕ, zero, suc, ◌+◌, ◌-◌, List, [], ◌∷◌, leb, ltb, eqb, length, take, drop}
-use Rattle.std.proofs.Math.Option.{Option, none, some}
+use Rattle.std.specs.Prelude.{Bool, true, false, cond, ◌&&◌, ◌||◌, ℕ, zero, suc, ◌+◌, ◌-◌, List, [], ◌∷◌, leb, ltb, eqb, length, take, drop, None, Option, Some}
 use Rattle.octets.specs.Numbers.{little_at}
 use Rattle.key_book.specs.Limits.{rows_most, slot_size, heard}
 use Rattle.key_book.specs.Book.{mark_fits}
@@ -13,8 +12,6 @@ use Rattle.book_card.specs.Layout.{kind_at, body_at, mark_at, received_at, sent_
 use Rattle.book_card.specs.Card.{Row, row_with}
 use Rattle.book_card.specs.declared.Front.{Front}
 use Rattle.book_card.specs.declared.Front.TheVariants.{Broken, Row as RowFront, Close}
-use Rattle.book_card.specs.declared.Counted.{Counted}
-use Rattle.book_card.specs.declared.Counted.TheVariants.{Malformed, Rows as RowCount}
 
 -- the form of a card's rows, by the kind of its first record; a card of no rows counts as one of the old form
 unfoldable pub form_in : List ℕ → CardForm
@@ -105,8 +102,8 @@ low_after low (r ∷ rows) = low_after (suc r.id) rows
 
 -- the rows of a card, by the rows in front and how they end
 abbrev pub rows_by : List Row → CardEnd → Option (List Row)
-rows_by rows closed = some rows
-rows_by rows fault = none
+rows_by rows closed = Some rows
+rows_by rows fault = None
 
 abbrev pub card_in : FrontRows → Option (List Row)
 card_in f = rows_by f.rows f.ends
@@ -116,6 +113,6 @@ unfoldable pub read_card : List ℕ → Option (List Row)
 read_card s = card_in (rows_in_front (form_in s) s)
 
 -- the answer of the first pass, begun with n rows
-abbrev pub counted_from : ℕ → Option (List Row) → Counted
-counted_from n none = Malformed
-counted_from n (some rows) = RowCount (n + length rows)
+abbrev pub counted_from : ℕ → Option (List Row) → Option ℕ
+counted_from n None = None
+counted_from n (Some rows) = Some (n + length rows)

@@ -1,15 +1,12 @@
 -- Reading a card into a lent book: the answer, and every lent list afterwards (docs/RULES.md, 'The card').
-use Rattle.std.specs.Prelude.{cond, ◌&&◌, List, [], ◌∷◌, ◌++◌, map, ℕ, ◌*◌, leb, ltb, length, set}
-use Rattle.std.proofs.Math.Option.{Option, none, some, get_or as value_or}
+use Rattle.std.specs.Prelude.{cond, ◌&&◌, List, [], ◌∷◌, ◌++◌, map, ℕ, ◌*◌, leb, ltb, length, set, Err, None, Ok, Option, Result, Some, unwrap_or}
 use Rattle.octets.specs.Bytes.{written, filled}
-use Rattle.refusal.specs.Number.{number_of, done}
 use Rattle.refusal.specs.declared.Refusal.TheVariants.{UnsoundBook, MalformedCard, NoRoomForRows}
 use Rattle.key_book.specs.Limits.{slot_size}
 use Rattle.key_book.specs.Book.{Book, book_of, sized}
 use Rattle.book_card.specs.Card.{Row}
 use Rattle.book_card.specs.Reader.{read_card}
-use Rattle.book_card.specs.declared.ReadAnswer.{ReadAnswer}
-use Rattle.book_card.specs.declared.ReadAnswer.TheVariants.{Refused, Rows}
+use Rattle.refusal.specs.declared.Refusal.{Refusal}
 
 -- the slots of rows in the key store: each key, with zeros after it
 unfoldable pub slots_of : List Row → List ℕ
@@ -45,32 +42,27 @@ loaded b rows =
     (length rows)
 
 -- the answer by what the card holds, with room for so many rows: 15, then 17
-abbrev pub read_as : ℕ → Option (List Row) → ReadAnswer
-read_as room none = Refused MalformedCard
-read_as room (some rows) = cond (ltb room (length rows)) (Refused NoRoomForRows) (Rows (length rows))
+abbrev pub read_as : ℕ → Option (List Row) → Result ℕ Refusal
+read_as room None = Err MalformedCard
+read_as room (Some rows) = cond (ltb room (length rows)) (Err NoRoomForRows) (Ok (length rows))
 
 -- the answer: 1, then those. The row count of the lent book is not looked at
-unfoldable pub read_of : Book → List ℕ → ReadAnswer
-read_of b card = cond (sized b) (read_as (length b.ids) (read_card card)) (Refused UnsoundBook)
+unfoldable pub read_of : Book → List ℕ → Result ℕ Refusal
+read_of b card = cond (sized b) (read_as (length b.ids) (read_card card)) (Err UnsoundBook)
 
 -- the rows of a card; none where it is malformed
 unfoldable pub rows_in : List ℕ → List Row
-rows_in card = value_or (read_card card) []
+rows_in card = unwrap_or (read_card card) []
 
 -- the lent book afterwards, by the answer: a refusal changes nothing
-abbrev pub read_by : Book → List ℕ → ReadAnswer → Book
-read_by b card (Refused x) = b
-read_by b card (Rows n) = loaded b (rows_in card)
+abbrev pub read_by : Book → List ℕ → Result ℕ Refusal → Book
+read_by b card (Err x) = b
+read_by b card (Ok n) = loaded b (rows_in card)
 
 unfoldable pub read_book : Book → List ℕ → Book
 read_book b card = read_by b card (read_of b card)
 
 -- how many rows an answer says are in use
-abbrev pub rows_given : ReadAnswer → ℕ
-rows_given (Refused x) = 0
-rows_given (Rows n) = n
-
--- the rules' number of an answer
-abbrev pub read_number : ReadAnswer → ℕ
-read_number (Refused x) = number_of x
-read_number (Rows n) = done
+abbrev pub rows_given : Result ℕ Refusal → ℕ
+rows_given (Err x) = 0
+rows_given (Ok n) = n

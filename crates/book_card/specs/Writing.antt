@@ -1,7 +1,6 @@
 -- Writing a book's card to a lent room, always in the new form: the answer, and every byte of the room afterwards (docs/RULES.md, 'The card'); and single
 -- records put in a room.
-use Rattle.std.specs.Prelude.{cond, ◌&&◌, List, [], ◌∷◌, ◌++◌, ℕ, zero, suc, ◌+◌, leb, ltb, length, get_or, drop}
-use Rattle.refusal.specs.Number.{number_of, done}
+use Rattle.std.specs.Prelude.{cond, ◌&&◌, List, [], ◌∷◌, ◌++◌, ℕ, zero, suc, ◌+◌, leb, ltb, length, get_or, drop, Err, Ok, Result}
 use Rattle.refusal.specs.declared.Refusal.TheVariants.{UnsoundBook, NoRoomForCard}
 use Rattle.octets.specs.Bytes.{written}
 use Rattle.key_book.specs.Limits.{slot_size}
@@ -10,8 +9,7 @@ use Rattle.book_card.specs.declared.CardForm.{CardForm}
 use Rattle.book_card.specs.declared.CardForm.TheVariants.{New}
 use Rattle.book_card.specs.Card.{Row, row_with, row_record, close, card_of}
 use Rattle.book_card.specs.Layout.{key_at, close_size}
-use Rattle.book_card.specs.declared.WriteAnswer.{WriteAnswer}
-use Rattle.book_card.specs.declared.WriteAnswer.TheVariants.{Refused, Size}
+use Rattle.refusal.specs.declared.Refusal.{Refusal}
 
 -- row k of a book
 abbrev pub row_at : Book → ℕ → Row
@@ -41,19 +39,14 @@ unfoldable pub close_put : ℕ → ℕ → List ℕ → List ℕ
 close_put rows at room = cond (leb (at + close_size) (length room)) (written at (close rows) room) room
 
 -- the answer, with a room of so many bytes: 1, then 16
-unfoldable pub write_of : Book → ℕ → WriteAnswer
+unfoldable pub write_of : Book → ℕ → Result ℕ Refusal
 write_of b room =
-    cond (sound b) (cond (ltb room (length (card_of New (rows_of b)))) (Refused NoRoomForCard) (Size (length (card_of New (rows_of b))))) (Refused UnsoundBook)
+    cond (sound b) (cond (ltb room (length (card_of New (rows_of b)))) (Err NoRoomForCard) (Ok (length (card_of New (rows_of b))))) (Err UnsoundBook)
 
 -- the room afterwards, by the answer: a refusal changes nothing
-abbrev pub room_by : Book → List ℕ → WriteAnswer → List ℕ
-room_by b room (Refused x) = room
-room_by b room (Size n) = card_of New (rows_of b) ++ drop n room
+abbrev pub room_by : Book → List ℕ → Result ℕ Refusal → List ℕ
+room_by b room (Err x) = room
+room_by b room (Ok n) = card_of New (rows_of b) ++ drop n room
 
 unfoldable pub room_after : Book → List ℕ → List ℕ
 room_after b room = room_by b room (write_of b (length room))
-
--- the rules' number of an answer
-abbrev pub write_number : WriteAnswer → ℕ
-write_number (Refused x) = number_of x
-write_number (Size n) = done

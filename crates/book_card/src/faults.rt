@@ -52,8 +52,7 @@ pub fn record_at(card: &[u8], at: usize) -> Record
         return Record::Lost;
     }
     let form = form_in(&card[at..]);
-    let front = front_at(card, at, form);
-    match front {
+    match front_at(card, at, form) {
         Front::Broken => {
             let kind = octets::little(card, at + KIND_AT, KIND_SIZE);
             Record::Faulty {

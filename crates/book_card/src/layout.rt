@@ -37,24 +37,19 @@ pub const CLOSE_SIZE: usize = BODY_AT + COUNT_SIZE;
 // The size of the largest record of either form: a row of the new one with the longest key.
 pub const RECORD_MOST: usize = MARK_AT + MARK_SIZE + COUNTER_SIZE + COUNTER_SIZE + SLOT_SIZE;
 
-// The kinds of record.
-pub const OLD_ROW_KIND: u64 = 1;
-
+// The kind of the close; those of the rows are the forms' numbers.
 pub const CLOSE_KIND: u64 = 2;
 
-pub const NEW_ROW_KIND: u64 = 3;
-
 // The kind of a form's rows.
+#[tactic(auto, unfolding(crate::specs::Layout::row_kind))]
 pub(crate) fn row_kind(form: CardForm) -> u64
     ensures { result ≡ row_kind form }
 {
-    match form {
-        CardForm::Old => OLD_ROW_KIND,
-        CardForm::New => NEW_ROW_KIND,
-    }
+    form as u64
 }
 
 // How many bytes a form has for the mark: the old one none.
+#[tactic(auto, unfolding(crate::specs::Layout::mark_size))]
 pub(crate) fn mark_size(form: CardForm) -> usize
     ensures { result ≡ mark_size form }
 {
@@ -65,18 +60,21 @@ pub(crate) fn mark_size(form: CardForm) -> usize
 }
 
 // The offsets of what stands behind the mark in a form's rows.
+#[tactic(auto, using(crate::proofs::Forms::mark_small))]
 pub(crate) fn received_at(form: CardForm) -> usize
     ensures { result ≡ received_at form }
 {
     MARK_AT + mark_size(form)
 }
 
+#[tactic(auto, using(crate::proofs::Forms::mark_small))]
 pub(crate) fn sent_at(form: CardForm) -> usize
     ensures { result ≡ sent_at form }
 {
     received_at(form) + COUNTER_SIZE
 }
 
+#[tactic(auto, using(crate::proofs::Forms::mark_small))]
 pub fn key_at(form: CardForm) -> usize
     ensures { result ≡ key_at form }
 {

@@ -1,7 +1,10 @@
 // The card on which a key book is stored: reading it into a lent book (`reading`, over `reader`), writing a book's card (`writing`), and moving a card
 // to a form (`moving`); a record is written in one place (`records`), and what is wrong with one is told in another (`faults`). docs/RULES.md, 'The card'.
-// Not here: opening and reading files, what a loaded book then accepts (delayed_auth), and what is kept of a damaged card (card_salvage).
+// Not here: opening and reading files, and what a loaded book then accepts (delayed_auth).
 #![tactic(auto)]
+
+ghost use Rattle.std.specs.Prelude.{◌≡◌, ℕ, ◌<◌, Some, get_or};
+ghost use Rattle.book_card.specs.Reader.{form_in, read_card, counted_from};
 
 mod faults;
 mod layout;
@@ -12,25 +15,54 @@ mod records;
 mod writing;
 
 pub use faults::record_at;
-pub use layout::{CLOSE_KIND, CLOSE_SIZE, NEW_ROW_KIND, OLD_ROW_KIND, RECORD_MOST, key_at};
+pub use layout::{CLOSE_KIND, CLOSE_SIZE, RECORD_MOST, key_at};
 pub use moving::card_move;
 pub use reader::{form_in, front_at, wants_more};
 pub use reading::{card_read, put_row};
 pub use records::{add_close, add_record};
-use refusal::Refusal;
 pub use writing::card_write;
 
-// The form of a card's rows.
-#[derive(Clone, Copy)]
+// The form of a card's rows, and the kind of its rows' records.
+#[derive(Clone, Copy, Debug, PartialEq, Eq)]
 pub enum CardForm {
     // Without marks: every row is heard.
-    Old,
+    Old = 1,
     // With marks.
-    New,
+    New = 3,
 }
 
-// The record at a place of a card whose rows have a form.
+// A row of a book: its fields, and its key where it stands.
 #[derive(Clone, Copy)]
+pub struct LentRow<'k> {
+    pub id: u32,
+    pub mark: u8,
+    pub received: u64,
+    pub sent: u64,
+    pub key: &'k [u8],
+}
+
+// A card that was found good: the form of its rows, and how many they are. `plain` says that its elements are bytes, which the laws about cards ask for.
+#[derive(Clone, Copy)]
+pub(crate) struct GoodCard<'c> {
+    pub bytes: &'c [u8],
+    pub form: CardForm,
+    pub rows: usize,
+    ghost plain: { (k : ℕ) → get_or bytes.now k 0 < 256 },
+    ghost formed: { form ≡ form_in bytes.now },
+    ghost counted: { Some rows ≡ counted_from 0 (read_card bytes.now) },
+}
+
+// The rows of a form in front of a card, one after another. They end at the first place, then `at`, where none stands, be it the close or broken.
+#[derive(Drop)]
+pub(crate) struct Rows<'c> {
+    pub card: &'c [u8],
+    pub form: CardForm,
+    pub at: usize,
+}
+
+// The record at a place of a card whose rows have a form. A row's fields stand in the case, as in `Record` and in card_pieces: the definitions, `front_of` and
+// its statements, name them one by one.
+#[derive(Clone, Copy, Debug, PartialEq, Eq)]
 pub enum Front {
     // No whole record, no row of the form and no close, a length that is not of its kind, or a mark that does not go with its counter.
     Broken,
@@ -47,7 +79,7 @@ pub enum Front {
 }
 
 // The record at a place of a card, whatever form the other rows have.
-#[derive(Clone, Copy)]
+#[derive(Clone, Copy, Debug, PartialEq, Eq)]
 pub enum Record {
     // No whole record: its length field is cut, counts less than a kind takes, or passes the end.
     Lost,
@@ -71,7 +103,7 @@ pub enum Record {
 }
 
 // Why a whole record is neither a row nor a close: the first that applies.
-#[derive(Clone, Copy)]
+#[derive(Clone, Copy, Debug, PartialEq, Eq)]
 pub enum Fault {
     // The kind is neither a row's nor the close's.
     UnknownKind,
@@ -81,30 +113,4 @@ pub enum Fault {
     WrongMark,
     // A row is not heard and has a received counter other than 0.
     NotHeardCounter,
-}
-
-// What the first pass over a card finds.
-#[derive(Clone, Copy)]
-enum Counted {
-    Malformed,
-    // A card of so many rows.
-    Rows(usize),
-}
-
-// The answer of `card_read`.
-#[derive(Clone, Copy)]
-pub enum ReadAnswer {
-    // UnsoundBook where the lent sizes disagree or there is room for too many rows, MalformedCard, NoRoomForRows; nothing lent is changed.
-    Refused(Refusal),
-    // The rows read, which are now those of the book.
-    Rows(usize),
-}
-
-// The answer of `card_write` and of `card_move`.
-#[derive(Clone, Copy)]
-pub enum WriteAnswer {
-    // Writing: UnsoundBook, NoRoomForCard. Moving: MalformedCard, NoRoomForCard, RowNotHeard. The room is not changed.
-    Refused(Refusal),
-    // The size of the card, which now stands at the front of the room.
-    Size(usize),
 }

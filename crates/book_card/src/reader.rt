@@ -2,29 +2,31 @@
 ghost use Rattle.std.specs.Prelude.{◌≡◌, ◌+◌, ◌≤◌, length, drop};
 ghost use Rattle.book_card.specs.Layout.{length_size, mark_at, mark_size};
 ghost use Rattle.book_card.specs.Reader.{form_in, mark_in, row_by, front_of, record_length, wants, rows_in_front, card_in, counted_from};
+ghost use Rattle.book_card.specs.Walk.{all_rows, GivesRow, bytes_left};
 
 use crate::layout::{
     BODY_AT, CLOSE_KIND, CLOSE_SIZE, COUNT_SIZE, COUNTER_SIZE, ID_SIZE, KIND_AT, KIND_SIZE,
-    LENGTH_SIZE, MARK_AT, MARK_SIZE, NEW_ROW_KIND, RECORD_MOST, key_at, received_at, row_kind,
-    sent_at,
+    LENGTH_SIZE, MARK_AT, MARK_SIZE, RECORD_MOST, key_at, received_at, row_kind, sent_at,
 };
-use crate::{CardForm, Counted, Front};
+use crate::{CardForm, Front, LentRow, Rows};
 use key_book::{ROWS_MOST, SLOT_SIZE};
 
 // The form of a card's rows, by the kind of its first record.
+#[tactic(auto, unfolding(crate::specs::Reader::form_in))]
 pub fn form_in(card: &[u8]) -> CardForm
     ensures { result ≡ form_in card.now }
 {
     if card.len() < BODY_AT {
         return CardForm::Old;
     }
-    if octets::little(card, KIND_AT, KIND_SIZE) == NEW_ROW_KIND {
+    if octets::little(card, KIND_AT, KIND_SIZE) == row_kind(CardForm::New) {
         return CardForm::New;
     }
     CardForm::Old
 }
 
 // The mark of the row at a place of a card.
+#[tactic(auto, using(crate::proofs::Forms::mark_new), unfolding(crate::specs::Reader::mark_in, crate::specs::Layout::mark_size))]
 pub(crate) fn mark_in(card: &[u8], at: usize, form: CardForm) -> u8
     requires { at + (mark_at + mark_size form) ≤ length card.now }
     ensures { result ≡ mark_in form (drop at card.now) }
@@ -120,47 +122,74 @@ pub fn wants_more(card: &[u8], at: usize) -> bool
     is_length(size)
 }
 
+impl<'c> Rows<'c> {
+    // All rows in front of a card.
+    pub fn new(card: &'c [u8], form: CardForm) -> Rows<'c>
+        ensures { result ≡ all_rows card.entry form }
+    {
+        Rows { card, form, at: 0 }
+    }
+}
+
+impl<'c> Iterator for Rows<'c> {
+    type Item = LentRow<'c>;
+
+    ghost next_gives = { GivesRow };
+
+    ghost remaining = { bytes_left };
+
+    fn next(&mut self) -> Option<LentRow<'c>> {
+        let Front::Row {
+            id,
+            mark,
+            received,
+            sent,
+            size,
+        } = front_at(self.card, self.at, self.form)
+        else {
+            return None;
+        };
+        let key_from = self.at + key_at(self.form);
+        let next = key_from + size;
+        self.at = next;
+        Some(LentRow {
+            id,
+            mark,
+            received,
+            sent,
+            key: &self.card[key_from..next],
+        })
+    }
+}
+
 // The first pass: whether the bytes are a card with rows of this form, and of how many. Nothing is written before it is known.
-pub(crate) fn count_rows(card: &[u8], form: CardForm) -> Counted
+pub(crate) fn count_rows(card: &[u8], form: CardForm) -> Option<usize>
     ensures { result ≡ counted_from 0 (card_in (rows_in_front form card.now)) }
 {
-    let head = key_at(form);
-    let mut at: usize = 0;
+    let mut left = Rows::new(card, form);
     let mut rows: usize = 0;
     // The least id that may follow.
     let mut low: u64 = 0;
-    loop {
-        let front = front_at(card, at, form);
-        match front {
-            Front::Broken => {
-                return Counted::Malformed;
-            }
-            Front::Close(count) => {
-                if card.len() - at != CLOSE_SIZE {
-                    return Counted::Malformed;
-                }
-                if count != rows {
-                    return Counted::Malformed;
-                }
-                return Counted::Rows(rows);
-            }
-            Front::Row {
-                id,
-                mark: _,
-                received: _,
-                sent: _,
-                size,
-            } => {
-                if rows == ROWS_MOST {
-                    return Counted::Malformed;
-                }
-                if (id as u64) < low {
-                    return Counted::Malformed;
-                }
-                low = id as u64 + 1;
-                at = at + head + size;
-                rows = rows + 1;
-            }
+    // No `for`: behind one over `left.by_ref()` nothing is known of `left`, which says where the rows end.
+    while let Some(row) = left.next() {
+        if rows == ROWS_MOST {
+            return None;
         }
+        if (row.id as u64) < low {
+            return None;
+        }
+        low = row.id as u64 + 1;
+        rows += 1;
     }
+    // Behind its rows a card has the close, which numbers them, and no more.
+    let Front::Close(count) = front_at(card, left.at, form) else {
+        return None;
+    };
+    if card.len() - left.at != CLOSE_SIZE {
+        return None;
+    }
+    if count != rows {
+        return None;
+    }
+    Some(rows)
 }

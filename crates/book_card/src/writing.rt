@@ -2,14 +2,16 @@
 ghost use Rattle.std.specs.Prelude.{◌≡◌, ◌≤◌, length};
 ghost use Rattle.octets.specs.Bytes.{written};
 ghost use Rattle.key_book.specs.Limits.{rows_most};
-ghost use Rattle.key_book.specs.Book.{book_of, Sound};
+ghost use Rattle.key_book.specs.Book.{Sound};
+ghost use Rattle.key_book.specs.Lent.{book_in};
 ghost use Rattle.book_card.specs.declared.CardForm.TheVariants.{New};
 ghost use Rattle.book_card.specs.Card.{card_of};
 ghost use Rattle.book_card.specs.Writing.{rows_of, size_to, write_of, room_after};
 
 use crate::layout::{CLOSE_SIZE, key_at};
 use crate::records::{put_close, put_record};
-use crate::{CardForm, WriteAnswer};
+use crate::{CardForm, LentRow};
+use key_book::LentBook;
 use refusal::Refusal;
 
 // The size of the card of a book with these key lengths.
@@ -20,74 +22,45 @@ fn card_size(lengths: &[u8], rows: usize) -> usize
 {
     let head = key_at(CardForm::New);
     let mut size = CLOSE_SIZE;
-    let mut row: usize = 0;
-    while row < rows {
-        size = size + (head + lengths[row] as usize);
-        row = row + 1;
+    for &length in &lengths[..rows] {
+        size += head + length as usize;
     }
     size
 }
 
 // Writes the whole card of a sound book to the front of a room that it fits.
-fn put_card(
-    ids: &[u32],
-    lengths: &[u8],
-    store: &[u8],
-    marks: &[u8],
-    received: &[u64],
-    sent: &[u64],
-    rows: usize,
-    card: &mut [u8],
-)
-    requires sound { Sound (book_of ids.now lengths.now store.now marks.now received.now sent.now rows) }
-    requires b_in_bounds { let b = book_of ids.now lengths.now store.now marks.now received.now sent.now rows in
-        length (card_of New (rows_of b)) ≤ length card.old }
-    ensures { let b = book_of ids.now lengths.now store.now marks.now received.now sent.now rows in
-        card.new ≡ written 0 (card_of New (rows_of b)) card.old }
+fn put_card(book: LentBook, card: &mut [u8])
+    requires sound { Sound (book_in book) }
+    requires b_in_bounds { length (card_of New (rows_of (book_in book))) ≤ length card.old }
+    ensures { card.new ≡ written 0 (card_of New (rows_of (book_in book.entry))) card.old }
 {
     let mut at: usize = 0;
-    let mut row: usize = 0;
-    while row < rows {
-        let key = key_book::key_of(store, lengths, row);
-        at = at
-            + put_record(
-                CardForm::New,
-                ids[row],
-                marks[row],
-                received[row],
-                sent[row],
-                key,
-                card,
-                at,
-            );
-        row = row + 1;
+    for row in 0..book.rows {
+        let row = LentRow {
+            id: book.ids[row],
+            mark: book.marks[row],
+            received: book.received[row],
+            sent: book.sent[row],
+            key: key_book::key_of(book.store, book.lengths, row),
+        };
+        at += put_record(CardForm::New, row, card, at);
     }
-    put_close(rows, card, at);
+    put_close(book.rows, card, at);
 }
 
-// Writes the card of a book to the front of a lent room and answers its size. Later bytes of the room stay as they were.
-pub fn card_write(
-    ids: &[u32],
-    lengths: &[u8],
-    store: &[u8],
-    marks: &[u8],
-    received: &[u64],
-    sent: &[u64],
-    rows: usize,
-    card: &mut [u8],
-) -> WriteAnswer
-    ensures answer { let b = book_of ids.now lengths.now store.now marks.now received.now sent.now rows in
-        result ≡ write_of b (length card.old) }
-    ensures after { let b = book_of ids.now lengths.now store.now marks.now received.now sent.now rows in
-        card.new ≡ room_after b card.old }
+// Writes the card of a book to the front of a lent room and answers its size. Later bytes of the room stay as they were. UnsoundBook, NoRoomForCard; then
+// the room is not changed.
+pub fn card_write(book: LentBook, card: &mut [u8]) -> Result<usize, Refusal>
+    ensures answer { result ≡ write_of (book_in book.entry) (length card.old) }
+    ensures after { card.new ≡ room_after (book_in book.entry) card.old }
 {
-    if !key_book::is_sound(ids, lengths, store, marks, received, sent, rows) {
-        return WriteAnswer::Refused(Refusal::UnsoundBook);
+    if !book.is_sound() {
+        return Err(Refusal::UnsoundBook);
     }
-    let size = card_size(lengths, rows);
+    let size = card_size(book.lengths, book.rows);
     if card.len() < size {
-        return WriteAnswer::Refused(Refusal::NoRoomForCard);
+        return Err(Refusal::NoRoomForCard);
     }
-    put_card(ids, lengths, store, marks, received, sent, rows, card);
-    WriteAnswer::Size(size)
+    put_card(book, card);
+    Ok(size)
 }

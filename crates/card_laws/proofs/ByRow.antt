@@ -1,7 +1,7 @@
 -- Reading a card row by row (specs/Laws.antt, `ReadSays`): each list of the book read is the card's elements written over the old ones, and a row's
 -- slot stands in the slots written over the key store.
 use mathlib.Core.Path.{◌≡◌, refl, sym, ap, ◌∙◌}
-use mathlib.Core.Option.{some, some-injective}
+use Rattle.std.proofs.lemmas.Option.{same_Some}
 use mathlib.Core.List.{List, ◌++◌, map}
 use Prim.Native.Nat.{ℕ, suc, ◌+◌, ◌-◌, ◌*◌, ◌≤◌, ◌<◌}
 use native.Mathlib.Omega.{arith}
@@ -13,7 +13,6 @@ use Rattle.book_card.specs.declared.CardForm.{CardForm}
 use Rattle.book_card.specs.Card.{Row, empty_row, InOrder}
 use Rattle.book_card.specs.Reader.{read_card}
 use Rattle.book_card.specs.Reading.{slots_of, loaded}
-use Rattle.book_card.specs.declared.ReadAnswer.TheVariants.{Rows}
 use Rattle.card_laws.specs.Laws.{RowSet, LeftFrom, RowsLeft, RowsRead, ReadSays}
 use Rattle.book_card.proofs.Says.{card_says}
 use Rattle.book_card.proofs.Loads.{loaded_is}
@@ -23,6 +22,7 @@ use Rattle.octets.specs.Bytes.{written, filled}
 use Rattle.octets.proofs.Written.{length_written, written_front}
 use Rattle.octets.proofs.Filled.{length_filled, filled_in, filled_behind}
 use Rattle.card_laws.proofs.Largest.{is_bytes}
+use Rattle.std.specs.Prelude.{Ok, Some}
 
 -- elements written at the front of a list, and the old ones behind them
 front_new : (new old : List ℕ) (k : ℕ) → k < length new → get_or (written 0 new old) k 0 ≡ get_or new k 0
@@ -97,10 +97,10 @@ module _ {form : CardForm} (b : Book) (z : Sized b) (rows : List Row) (o : InOrd
 pub read_says : ReadSays
 read_says b card n g form rows w = on (rw g at (read_case b card))
   where
-    reads : read_card card ≡ some rows
+    reads : read_card card ≡ Some rows
     reads = (card_says card (is_bytes form rows card w) rows).1 (form, w)
 
-    on : {m : ℕ} {c : Book} → ReadCase b card (Rows m) c → RowsRead b rows m c
+    on : {m : ℕ} {c : Book} → ReadCase b card (Ok m) c → RowsRead b rows m c
     on (read z others f l) =
-        let s : others ≡ rows = some-injective _ _ (sym f ∙ reads) in
+        let s : others ≡ rows = same_Some _ _ (sym f ∙ reads) in
         rw s (rows_read b z rows w.order (rw (← s) l))

@@ -3,7 +3,7 @@
 use mathlib.Core.Path.{◌≡◌, refl, sym, ap, ◌∙◌}
 use mathlib.Core.Logic.{◌⊎◌, ⊎_elim}
 use mathlib.Core.Bool.{Bool, true, false, ◌&&◌, and-eq-true_iff, true≢false}
-use mathlib.Core.Option.{some-injective}
+use Rattle.std.proofs.lemmas.Option.{same_Some}
 use mathlib.Core.List.{List, [], ◌∷◌}
 use Prim.Native.Nat.{ℕ, zero, suc, ◌<◌}
 use native.Mathlib.Omega.{arith}
@@ -17,13 +17,13 @@ use Rattle.book_card.specs.declared.CardForm.TheVariants.{Old, New}
 use Rattle.book_card.specs.Card.{Row, card_of, empty_row, Held, InOrder, IsCard}
 use Rattle.book_card.specs.Reading.{read_book}
 use Rattle.book_card.specs.Moving.{all_heard, holds, room_moved}
-use Rattle.book_card.specs.declared.WriteAnswer.{WriteAnswer}
-use Rattle.book_card.specs.declared.WriteAnswer.TheVariants.{Size}
 use Rattle.book_card.proofs.Says.{card_says}
 use Rattle.book_card.proofs.Ends.{WriteCase, unsound, small, wrote, write_case, MoveCase, no_space, moved, move_case, case_move}
 use Rattle.card_laws.specs.Laws.{Moved, MoveKeepsRows, MoveCopies, ThereAndBack, ReadThenWriteMoves}
 use Rattle.card_laws.proofs.Largest.{is_bytes}
 use Rattle.card_laws.proofs.Trips.{LoadedCard, card_loaded}
+use Rattle.std.specs.Prelude.{Ok, Result}
+use Rattle.refusal.specs.declared.Refusal.{Refusal}
 
 -- ---- which rows a form holds
 
@@ -101,7 +101,7 @@ in_order_held New rows o = refl
 pub move_keeps_rows : MoveKeepsRows
 move_keeps_rows wanted card room n h e = on (rw e at (move_case wanted card room)) refl
   where
-    on : {m : ℕ} {after : List ℕ} → MoveCase wanted card room (Size m) after → room_moved wanted card room ≡ after
+    on : {m : ℕ} {after : List ℕ} → MoveCase wanted card room (Ok m) after → room_moved wanted card room ≡ after
         → (rows : List Row) × Moved wanted card room m rows
     on (moved rows reads fits held) is =
         let before = (card_says card h rows).0 reads in
@@ -131,7 +131,7 @@ there_and_back form wanted rows card room n w e second l =
     let h = is_bytes form rows card w in
     let m = move_keeps_rows wanted card room n h e in
     let there = take n (room_moved wanted card room) in
-    let same : m.0 ≡ rows = some-injective _ _ (sym ((card_says card h m.0).1 m.1.before) ∙ (card_says card h rows).1 (form, w)) in
+    let same : m.0 ≡ rows = same_Some _ _ (sym ((card_says card h m.0).1 m.1.before) ∙ (card_says card h rows).1 (form, w)) in
     let a : IsCard wanted rows there = rw same at m.1.after in
     let reads = (card_says there (is_bytes wanted rows there a) rows).1 (wanted, a) in
     let done = case_move form there second (moved rows reads (rw (← w.bytes) l) (in_order_held form rows w.order)) in
@@ -147,7 +147,7 @@ read_then_write_moves card h into n g room =
     let done = case_move New card room (on c (write_case b room)) in
     record { loaded_sound = c.is_sound; answer = done.0; bytes = done.1 }
   where
-    on : (c : LoadedCard card into) {a : WriteAnswer} {after : List ℕ} → WriteCase (read_book into card) room a after → MoveCase New card room a after
+    on : (c : LoadedCard card into) {a : Result ℕ Refusal} {after : List ℕ} → WriteCase (read_book into card) room a after → MoveCase New card room a after
     on c (unsound f) = absurd (f c.is_sound)
     on c (small s l) = no_space c.rows c.reads (rw c.its_rows at l)
     on c (wrote s l) = rw c.its_rows (moved c.rows c.reads (rw c.its_rows at l) refl)

@@ -1,7 +1,7 @@
 -- Both round trips. A loaded book is sound and its rows are the card's, row by row (proofs/ByRow.antt); a sound book's rows are in order, so that their
 -- card reads as they.
 use mathlib.Core.Path.{◌≡◌, refl, sym, ap, ◌∙◌}
-use mathlib.Core.Option.{some, some-injective}
+use Rattle.std.proofs.lemmas.Option.{same_Some}
 use mathlib.Core.List.{List}
 use Prim.Native.Nat.{ℕ, ◌≤◌, ◌<◌}
 use native.Mathlib.Omega.{arith}
@@ -16,7 +16,6 @@ use Rattle.book_card.specs.Card.{Row, row_with, card_of, empty_row, InOrder}
 use Rattle.book_card.specs.Reader.{read_card}
 use Rattle.book_card.specs.Reading.{loaded, read_of, read_book}
 use Rattle.book_card.specs.Writing.{row_at, rows_of, room_after}
-use Rattle.book_card.specs.declared.ReadAnswer.TheVariants.{Rows}
 use Rattle.book_card.proofs.Says.{card_says}
 use Rattle.book_card.proofs.Writes.{rows_count, rows_are}
 use Rattle.book_card.proofs.Ends.{ReadCase, read, read_case, case_read, wrote, case_write}
@@ -24,6 +23,7 @@ use Rattle.card_laws.specs.Laws.{WriteThenRead, ReadThenWrite}
 use Rattle.card_laws.proofs.Rows.{rows_in_order}
 use Rattle.card_laws.proofs.Largest.{card_bytes, is_bytes}
 use Rattle.card_laws.proofs.ByRow.{rows_read}
+use Rattle.std.specs.Prelude.{Ok, Some}
 
 module _ {form : CardForm} (b : Book) (z : Sized b) (rows : List Row) (o : InOrder form rows) (room : length rows ≤ length b.ids) where
   abbrev now : Book
@@ -83,21 +83,21 @@ write_then_read b l s room h into z r =
     ((card_says card (card_bytes New (rows_of b) o) (rows_of b)).1 (New, record { order = o; bytes = refl })) q) in
     record {
       size = sym w.0;
-      answer = ap (read_of into) e ∙ sym g.0 ∙ ap Rows n;
+      answer = ap (read_of into) e ∙ sym g.0 ∙ ap Ok n;
       rows = ap (λ (c : List ℕ). rows_of (read_book into c)) e ∙ ap rows_of (sym g.1) ∙ loaded_rows into z (rows_of b) o q;
     }
 
 -- what reading a card leaves: a sound book whose rows are those of the card
 pub record LoadedCard (card : List ℕ) (into : Book) : Type 0 where
   pub rows : List Row
-  pub reads : read_card card ≡ some rows
+  pub reads : read_card card ≡ Some rows
   pub is_sound : Sound (read_book into card)
   pub its_rows : rows_of (read_book into card) ≡ rows
 
-pub card_loaded : (card : List ℕ) → Bytes card → (into : Book) (n : ℕ) → read_of into card ≡ Rows n → LoadedCard card into
+pub card_loaded : (card : List ℕ) → Bytes card → (into : Book) (n : ℕ) → read_of into card ≡ Ok n → LoadedCard card into
 card_loaded card h into n g = on (rw g at (read_case into card)) refl
   where
-    on : {m : ℕ} {c : Book} → ReadCase into card (Rows m) c → read_book into card ≡ c → LoadedCard card into
+    on : {m : ℕ} {c : Book} → ReadCase into card (Ok m) c → read_book into card ≡ c → LoadedCard card into
     on (read z rows reads fits) book =
         let o = ((card_says card h rows).0 reads).1.order in
         record {
@@ -111,7 +111,7 @@ pub read_then_write : ReadThenWrite
 read_then_write card rows w into n g room l =
     let h = is_bytes New rows card w in
     let c = card_loaded card h into n g in
-    let those : c.rows ≡ rows = some-injective _ _ (sym c.reads ∙ (card_says card h rows).1 (New, w)) in
+    let those : c.rows ≡ rows = same_Some _ _ (sym c.reads ∙ (card_says card h rows).1 (New, w)) in
     let e : card_of New (rows_of (read_book into card)) ≡ card = ap (card_of New) (c.its_rows ∙ those) ∙ sym w.bytes in
     let done = case_write (read_book into card) room (wrote c.is_sound (rw e l)) in
     record { loaded_sound = c.is_sound; size = sym (rw e at done.0); bytes = sym (rw e at done.1) }

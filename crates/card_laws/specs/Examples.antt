@@ -1,7 +1,6 @@
 -- Bench examples 1 and 2 (docs/RULES.md, 'Bench examples') over the definitions, cards whose bytes are all different where they may be, and cards that a
 -- mark makes malformed.
-use Rattle.std.specs.Prelude.{◌≡◌, List, [], ◌∷◌, ◌++◌, ℕ, length, take, replicate}
-use Rattle.std.proofs.Math.Option.{Option, none, some}
+use Rattle.std.specs.Prelude.{◌≡◌, List, [], ◌∷◌, ◌++◌, ℕ, length, take, replicate, Err, None, Ok, Option, Some}
 use Rattle.refusal.specs.Number.{number_of}
 use Rattle.refusal.specs.declared.Refusal.TheVariants.{MalformedCard, NoRoomForCard, RowNotHeard}
 use Rattle.octets.specs.Bytes.{zeros}
@@ -11,9 +10,7 @@ use Rattle.book_card.specs.Card.{Row, row_with, card_of}
 use Rattle.book_card.specs.Reader.{closed, fault, rows_in_front, read_card}
 use Rattle.book_card.specs.Reading.{read_of, read_book}
 use Rattle.book_card.specs.Writing.{rows_of, write_of, room_after}
-use Rattle.book_card.specs.declared.ReadAnswer.TheVariants.{Refused, Rows}
 use Rattle.book_card.specs.Moving.{move_of, room_moved}
-use Rattle.book_card.specs.declared.WriteAnswer.TheVariants.{Refused as Unwritten, Size}
 
 -- book B: one row, id 7, heard, received 10, sent 3, key 1, 2, 3, 4, in room for one row
 abbrev pub book_b : Book
@@ -54,17 +51,17 @@ pub record Example1 : Type 0 where
   pub old_size : length card_b ≡ 34
   pub new_card : card_of New (rows_of book_b) ≡ new_card_b
   pub new_size : length new_card_b ≡ 35
-  pub written_size : write_of book_b 35 ≡ Size 35
+  pub written_size : write_of book_b 35 ≡ Ok 35
   pub written_bytes : room_after book_b (zeros 35) ≡ new_card_b
-  pub read_old : (read_of full_room card_b ≡ Rows 1) × (read_book full_room card_b ≡ room_with_b)
-  pub read_new : (read_of full_room new_card_b ≡ Rows 1) × (read_book full_room new_card_b ≡ room_with_b)
-  pub to_new : (move_of New card_b 36 ≡ Size 35) × (room_moved New card_b (replicate 36 0xEE) ≡ new_card_b ++ (0xEE ∷ []))
-  pub to_old : (move_of Old new_card_b 35 ≡ Size 34) × (room_moved Old new_card_b (replicate 35 0xEE) ≡ card_b ++ (0xEE ∷ []))
+  pub read_old : (read_of full_room card_b ≡ Ok 1) × (read_book full_room card_b ≡ room_with_b)
+  pub read_new : (read_of full_room new_card_b ≡ Ok 1) × (read_book full_room new_card_b ≡ room_with_b)
+  pub to_new : (move_of New card_b 36 ≡ Ok 35) × (room_moved New card_b (replicate 36 0xEE) ≡ new_card_b ++ (0xEE ∷ []))
+  pub to_old : (move_of Old new_card_b 35 ≡ Ok 34) × (room_moved Old new_card_b (replicate 35 0xEE) ≡ card_b ++ (0xEE ∷ []))
 
 -- how many rows were read
 abbrev pub row_count : Option (List Row) → ℕ
-row_count none = 0
-row_count (some rows) = length rows
+row_count None = 0
+row_count (Some rows) = length rows
 
 -- behind a first row: a second one of this kind whose id is 8, and the close of two; as a row of the new form it is not heard, as one of the old form
 -- it has 0 for both counters and a key of two bytes
@@ -74,14 +71,14 @@ mixed_rest kind = 0x18 ∷ 0x00 ∷ kind ∷ 0x00 ∷ 0x08 ∷ 0x00 ∷ 0x00 ∷
 -- a mark of 0 goes with a received counter of 0 alone, and no mark but 0 and 1 is one; the old form has no card of a row not heard, which is said where
 -- there is room for it
 pub record MarkedCards : Type 0 where
-  pub not_heard_lem : read_card (marked_card 0 0) ≡ some (row_with 7 0 0 3 (1 ∷ 2 ∷ 3 ∷ 4 ∷ []) ∷ [])
-  pub received_before : read_card (marked_card 0 1) ≡ none
-  pub other_mark : read_card (marked_card 2 0) ≡ none
-  pub room_first : move_of Old (marked_card 0 0) 33 ≡ Unwritten NoRoomForCard
-  pub no_old_form : move_of Old (marked_card 0 0) 34 ≡ Unwritten RowNotHeard
+  pub not_heard_lem : read_card (marked_card 0 0) ≡ Some (row_with 7 0 0 3 (1 ∷ 2 ∷ 3 ∷ 4 ∷ []) ∷ [])
+  pub received_before : read_card (marked_card 0 1) ≡ None
+  pub other_mark : read_card (marked_card 2 0) ≡ None
+  pub room_first : move_of Old (marked_card 0 0) 33 ≡ Err NoRoomForCard
+  pub no_old_form : move_of Old (marked_card 0 0) 34 ≡ Err RowNotHeard
   pub its_number : number_of RowNotHeard ≡ 18
   -- rows of both kinds on one card, the ids in order: neither way is it one
-  pub mixed : (read_card (take 28 card_b ++ mixed_rest 3) ≡ none) × (read_card (take 29 new_card_b ++ mixed_rest 1) ≡ none)
+  pub mixed : (read_card (take 28 card_b ++ mixed_rest 3) ≡ None) × (read_card (take 29 new_card_b ++ mixed_rest 1) ≡ None)
   pub unmixed : (row_count (read_card (take 28 card_b ++ mixed_rest 1)) ≡ 2) × (row_count (read_card (take 29 new_card_b ++ mixed_rest 3)) ≡ 2)
 
 -- docs/RULES.md, 'The card': the order of the fields and of the bytes in each, by a row in which no two bytes of id and counters are the same
@@ -100,9 +97,9 @@ ordered_new_card =
 
 pub record OrderedBytes : Type 0 where
   pub old_card : card_of Old (ordered_row ∷ []) ≡ ordered_card
-  pub old_rows : read_card ordered_card ≡ some (ordered_row ∷ [])
+  pub old_rows : read_card ordered_card ≡ Some (ordered_row ∷ [])
   pub new_card : card_of New (ordered_row ∷ []) ≡ ordered_new_card
-  pub new_rows : read_card ordered_new_card ≡ some (ordered_row ∷ [])
+  pub new_rows : read_card ordered_new_card ≡ Some (ordered_row ∷ [])
 
 -- the row's record, and the close behind it
 abbrev pub ordered_record : List ℕ
@@ -123,12 +120,12 @@ abbrev pub empty_card : List ℕ
 empty_card = 0x04 ∷ 0x00 ∷ 0x02 ∷ 0x00 ∷ 0x00 ∷ 0x00 ∷ []
 
 pub record Example2 : Type 0 where
-  pub no_rows : read_card empty_card ≡ some []
-  pub no_rows_read : read_of empty_room empty_card ≡ Rows 0
+  pub no_rows : read_card empty_card ≡ Some []
+  pub no_rows_read : read_of empty_room empty_card ≡ Ok 0
   -- it is in both forms
   pub both_forms : (card_of Old [] ≡ empty_card) × (card_of New [] ≡ empty_card)
-  pub moved_to_old : (move_of Old empty_card 6 ≡ Size 6) × (room_moved Old empty_card (zeros 6) ≡ empty_card)
-  pub moved_to_new : (move_of New empty_card 6 ≡ Size 6) × (room_moved New empty_card (zeros 6) ≡ empty_card)
-  pub one_byte_more : (x : ℕ) → read_card (empty_card ++ (x ∷ [])) ≡ none
-  pub one_byte_more_read : (x : ℕ) → read_of empty_room (empty_card ++ (x ∷ [])) ≡ Refused MalformedCard
+  pub moved_to_old : (move_of Old empty_card 6 ≡ Ok 6) × (room_moved Old empty_card (zeros 6) ≡ empty_card)
+  pub moved_to_new : (move_of New empty_card 6 ≡ Ok 6) × (room_moved New empty_card (zeros 6) ≡ empty_card)
+  pub one_byte_more : (x : ℕ) → read_card (empty_card ++ (x ∷ [])) ≡ None
+  pub one_byte_more_read : (x : ℕ) → read_of empty_room (empty_card ++ (x ∷ [])) ≡ Err MalformedCard
   pub its_number : number_of MalformedCard ≡ 15

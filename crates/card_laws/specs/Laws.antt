@@ -1,6 +1,6 @@
 -- What is proved of reading, writing and moving cards, each as a closed statement: docs/RULES.md, 'The card'. The proofs are in proofs/Largest.antt,
 -- ByRow.antt, Trips.antt, Moved.antt and Depends.antt.
-use Rattle.std.specs.Prelude.{◌≡◌, List, [], ◌∷◌, ◌++◌, ℕ, zero, suc, ◌+◌, ◌*◌, ◌≤◌, ◌<◌, length, get_or, take, drop}
+use Rattle.std.specs.Prelude.{◌≡◌, List, [], ◌∷◌, ◌++◌, ℕ, zero, suc, ◌+◌, ◌*◌, ◌≤◌, ◌<◌, length, get_or, take, drop, Ok}
 use Rattle.key_book.specs.Limits.{rows_most, slot_size, heard}
 use Rattle.key_book.specs.Book.{Book, Lent, Sized, Sound}
 use Rattle.key_book.specs.Laws.{SameKey}
@@ -12,8 +12,6 @@ use Rattle.book_card.specs.Layout.{key_at, close_size}
 use Rattle.book_card.specs.Reading.{read_of, read_book}
 use Rattle.book_card.specs.Writing.{rows_of, write_of, room_after}
 use Rattle.book_card.specs.Moving.{move_of, room_moved}
-use Rattle.book_card.specs.declared.ReadAnswer.TheVariants.{Rows}
-use Rattle.book_card.specs.declared.WriteAnswer.TheVariants.{Size}
 
 -- the size of the largest card of a form
 abbrev pub card_most : CardForm → ℕ
@@ -64,13 +62,13 @@ pub record RowsRead (b : Book) (rows : List Row) (n : ℕ) (c : Book) : Type 0 w
 
 abbrev pub ReadSays : Type 0
 ReadSays =
-    (b : Book) (card : List ℕ) (n : ℕ) → read_of b card ≡ Rows n → (form : CardForm) (rows : List Row) → IsCard form rows card
+    (b : Book) (card : List ℕ) (n : ℕ) → read_of b card ≡ Ok n → (form : CardForm) (rows : List Row) → IsCard form rows card
     → RowsRead b rows n (read_book b card)
 
 -- write a sound book's card, and read those bytes into any room for its rows: the same ids, keys, marks and counters
 pub record WrittenRead (b : Book) (room : List ℕ) (into : Book) : Type 0 where
-  pub size : write_of b (length room) ≡ Size (length (card_of New (rows_of b)))
-  pub answer : read_of into (take (length (card_of New (rows_of b))) (room_after b room)) ≡ Rows b.rows
+  pub size : write_of b (length room) ≡ Ok (length (card_of New (rows_of b)))
+  pub answer : read_of into (take (length (card_of New (rows_of b))) (room_after b room)) ≡ Ok b.rows
   pub rows : rows_of (read_book into (take (length (card_of New (rows_of b))) (room_after b room))) ≡ rows_of b
 
 abbrev pub WriteThenRead : Type 0
@@ -81,12 +79,12 @@ WriteThenRead =
 -- read a card of the new form, and write the book it gave to any room for it: the same bytes
 pub record ReadWritten (card : List ℕ) (into : Book) (room : List ℕ) : Type 0 where
   pub loaded_sound : Sound (read_book into card)
-  pub size : write_of (read_book into card) (length room) ≡ Size (length card)
+  pub size : write_of (read_book into card) (length room) ≡ Ok (length card)
   pub bytes : room_after (read_book into card) room ≡ card ++ drop (length card) room
 
 abbrev pub ReadThenWrite : Type 0
 ReadThenWrite =
-    (card : List ℕ) (rows : List Row) → IsCard New rows card → (into : Book) (n : ℕ) → read_of into card ≡ Rows n → (room : List ℕ)
+    (card : List ℕ) (rows : List Row) → IsCard New rows card → (into : Book) (n : ℕ) → read_of into card ≡ Ok n → (room : List ℕ)
     → length card ≤ length room → ReadWritten card into room
 
 -- read a card of either form, and write the book it gave to any room: that is the card moved to the new form, refusals too
@@ -96,7 +94,7 @@ pub record ReadMoved (card : List ℕ) (into : Book) (room : List ℕ) : Type 0 
   pub bytes : room_after (read_book into card) room ≡ room_moved New card room
 
 abbrev pub ReadThenWriteMoves : Type 0
-ReadThenWriteMoves = (card : List ℕ) → Bytes card → (into : Book) (n : ℕ) → read_of into card ≡ Rows n → (room : List ℕ) → ReadMoved card into room
+ReadThenWriteMoves = (card : List ℕ) → Bytes card → (into : Book) (n : ℕ) → read_of into card ≡ Ok n → (room : List ℕ) → ReadMoved card into room
 
 -- ---- moving
 
@@ -110,12 +108,12 @@ pub record Moved (wanted : CardForm) (card room : List ℕ) (n : ℕ) (rows : Li
 
 abbrev pub MoveKeepsRows : Type 0
 MoveKeepsRows =
-    (wanted : CardForm) (card room : List ℕ) (n : ℕ) → Bytes card → move_of wanted card (length room) ≡ Size n
+    (wanted : CardForm) (card room : List ℕ) (n : ℕ) → Bytes card → move_of wanted card (length room) ≡ Ok n
     → (rows : List Row) × Moved wanted card room n rows
 
 -- a card that is in the wanted form already is copied, where there is room for it
 pub record Copied (wanted : CardForm) (card room : List ℕ) : Type 0 where
-  pub size : move_of wanted card (length room) ≡ Size (length card)
+  pub size : move_of wanted card (length room) ≡ Ok (length card)
   pub bytes : room_moved wanted card room ≡ card ++ drop (length card) room
 
 abbrev pub MoveCopies : Type 0
@@ -124,10 +122,10 @@ MoveCopies = (form : CardForm) (rows : List Row) (card room : List ℕ) → IsCa
 -- moved to a form and back to the one that it has, where the first move answers 0 and the second has room: the same bytes
 abbrev pub ThereAndBack : Type 0
 ThereAndBack =
-    (form wanted : CardForm) (rows : List Row) (card room : List ℕ) (n : ℕ) → IsCard form rows card → move_of wanted card (length room) ≡ Size n
+    (form wanted : CardForm) (rows : List Row) (card room : List ℕ) (n : ℕ) → IsCard form rows card → move_of wanted card (length room) ≡ Ok n
     → (second : List ℕ) → length card ≤ length second
     → let there = take n (room_moved wanted card room) in
-    (move_of form there (length second) ≡ Size (length card)) × (room_moved form there second ≡ card ++ drop (length card) second)
+    (move_of form there (length second) ≡ Ok (length card)) × (room_moved form there second ≡ card ++ drop (length card) second)
 
 -- what a card depends on: of each row in use the id, the mark, the counters and the key; not slot bytes past a key, nor rows from the row count on
 pub record SameRows (b c : Book) : Type 0 where

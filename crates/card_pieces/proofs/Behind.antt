@@ -20,13 +20,13 @@ use Rattle.book_card.specs.Reader.{wants}
 use Rattle.book_card.proofs.Wants.{wants_few}
 use Rattle.card_pieces.specs.declared.Phase.{Phase}
 use Rattle.card_pieces.specs.declared.Phase.TheVariants.{Reading, Closed, Fault}
-use Rattle.card_pieces.specs.declared.RowsForm.{RowsForm}
 use Rattle.card_pieces.specs.declared.Reader.{Reader}
 use Rattle.card_pieces.specs.declared.Pass.{Pass}
 use Rattle.card_pieces.specs.Runs.{stopped_run, run, run_from, Outcome, outcome, onward_by, onward, is_reading, behind_by}
 use Rattle.card_pieces.specs.Pieces.{tail_most, window_size, window_of, form_by, form_after, state_with, settled}
 use Rattle.card_pieces.proofs.Runs.{run_is, run_wants, then_run, behind, runs_append, run_fits}
 use Rattle.card_pieces.proofs.Going.{window_part, after_twice, form_by_append, stopped_leaves, goes_on}
+use Rattle.std.specs.Prelude.{Option}
 
 pub window_of_fits : (size : ℕ) → window_of size ≤ size
 unfolding window_of
@@ -67,7 +67,7 @@ window_in kept taken tail piece window h k et ew =
 
 -- what is known of the pass p over the window s₁: the bytes `held`, of which there are `kept`, and the first `taken` of the piece
 pub record Told
-    (form : CardForm) (known formed : RowsForm) (held piece s₁ : List ℕ) (kept taken : ℕ) (b c : Book) (before least : ℕ) (p : Pass)
+    (form : CardForm) (known formed : Option CardForm) (held piece s₁ : List ℕ) (kept taken : ℕ) (b c : Book) (before least : ℕ) (p : Pass)
     : Type 0 where
   pub ek : length held ≡ kept
   pub et : taken ≡ window_of (length piece)
@@ -81,7 +81,7 @@ pub record Told
   pub stops : p.phase ≡ Reading → p.at < kept → wants (drop p.at s₁) ≡ true
   pub goes : outcome c p.rows (onward form p s₁) ≡ outcome b before (run form least before s₁)
 
-pub told_is : (form : CardForm) (known formed : RowsForm) (tail piece window : List ℕ) (kept taken : ℕ) (b c : Book) (before least : ℕ) (p : Pass)
+pub told_is : (form : CardForm) (known formed : Option CardForm) (tail piece window : List ℕ) (kept taken : ℕ) (b c : Book) (before least : ℕ) (p : Pass)
     → kept ≤ length tail → taken ≡ window_of (length piece) → window ≡ filled window_size (take kept tail ++ take taken piece)
     → before ≤ rows_most → form ≡ form_by (take (kept + taken) window) known → formed ≡ form_after known form before p.rows
     → p.at ≤ length (take (kept + taken) window) → (before ≤ p.rows) × (p.rows ≤ rows_most)
@@ -107,7 +107,7 @@ told_is form known formed tail piece window kept taken b c before least p h et e
     }
 
 module _
-    {form : CardForm} {known formed : RowsForm} {held piece s₁ : List ℕ} {kept taken : ℕ} {b c : Book} {before least : ℕ} {p : Pass}
+    {form : CardForm} {known formed : Option CardForm} {held piece s₁ : List ℕ} {kept taken : ℕ} {b c : Book} {before least : ℕ} {p : Pass}
     (told : Told form known formed held piece s₁ kept taken b c before least p)
   where
     abbrev t : List ℕ
@@ -162,7 +162,7 @@ module _
     leaves phase rest e r er =
         let o = stopped_leaves form c p.rows p.low phase rest in
         done (record { spare = c; rows = p.rows; low = p.low; phase = phase; rest = rest }) (e ∙ o) r
-        (er ∙ ap (λ (x : RowsForm). state_with rest p.rows p.low x phase) told.eformed) c refl
+        (er ∙ ap (λ (x : Option CardForm). state_with rest p.rows p.low x phase) told.eformed) c refl
 
     -- ---- a fault
 
@@ -283,6 +283,6 @@ module _
         cut_on r er d ed =
             let o = outcome c p.rows (run form p.low p.rows more) in
             let f : form_after formed form p.rows o.rows ≡ form_after known form before o.rows =
-            ap (λ (x : RowsForm). form_after x form p.rows o.rows) told.eformed ∙ after_twice known form before p.rows o.rows told.risen (omega arith) in
+            ap (λ (x : Option CardForm). form_after x form p.rows o.rows) told.eformed ∙ after_twice known form before p.rows o.rows told.risen (omega arith) in
             done o (reads ∙ ap (λ (x : List ℕ). outcome c p.rows (run form p.low p.rows x)) more_is) r
-            (er ∙ ap (λ (x : RowsForm). state_with o.rest o.rows o.low x o.phase) f) d ed
+            (er ∙ ap (λ (x : Option CardForm). state_with o.rest o.rows o.low x o.phase) f) d ed

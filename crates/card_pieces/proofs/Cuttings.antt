@@ -1,7 +1,6 @@
 -- From a fresh state any cutting gives what reading the whole gives: a run of pieces is one piece, and its end is reading's.
 use mathlib.Core.Path.{◌≡◌, refl, sym, ap, ap₂, ◌∙◌}
 use mathlib.Core.Bool.{Bool, true, false}
-use mathlib.Core.Option.{some}
 use mathlib.Core.List.{List, [], ◌∷◌, ◌++◌, append_assoc, append-nil}
 use Prim.Native.Nat.{ℕ, ◌+◌, ◌≤◌}
 use native.Mathlib.Nat.{zero-add}
@@ -10,18 +9,18 @@ use borrow.Author.Tests.{ltb-true, ltb-false}
 use lib.Dec.{ltb}
 use lib.ListN.{length, take}
 use lib.Seq.{take_all}
+use Rattle.std.specs.Prelude.{Ok, Some}
+use Rattle.refusal.specs.Number.{result_number, given_or}
 use Rattle.octets.specs.Bytes.{filled}
 use Rattle.key_book.specs.Limits.{rows_most}
 use Rattle.key_book.specs.Book.{Book, Sized}
 use Rattle.book_card.specs.Reader.{wants, CardEnd, closed, fault, FrontRows, form_in, rows_in_front, rows_by, read_card}
 use Rattle.book_card.specs.Reading.{loaded, read_of, read_book}
-use Rattle.book_card.specs.declared.ReadAnswer.TheVariants.{Rows}
 use Rattle.book_card.proofs.Steps.{read_is}
 use Rattle.book_card.proofs.Wants.{wants_nothing}
 use Rattle.book_card.proofs.Ends.{malformed, no_room_lem as no-room-read, read, case_read}
 use Rattle.card_pieces.specs.declared.Phase.TheVariants.{Reading, Closed}
 use Rattle.card_pieces.specs.declared.Reader.{Reader}
-use Rattle.card_pieces.specs.declared.Fed.{Fed}
 use Rattle.card_pieces.specs.Runs.{Run, phase_by, run_of, run, run_from, put_rows, Outcome, outcome}
 use Rattle.card_pieces.specs.Pieces.{fresh, form_by, form_after, state_with, settled, reads_on, state_fed, spare_fed, taken, feed_of, feed_spare}
 use Rattle.card_pieces.specs.Pieces.{has_ended, copied, finish_of, finish_book}
@@ -35,20 +34,20 @@ use Rattle.card_pieces.proofs.Joins.{takes_taken, feed_taken, spare_taken, takes
 
 -- after a piece x, the pieces ps are one piece more
 module _ (b : Book) (st : Reader) where
-  fed_all_lem : (ps : List (List ℕ)) (x : List ℕ) → fed_all (feed_spare b st x) (feed_of b st x).state ps ≡ (feed_of b st (x ++ joined ps)).state
+  fed_all_lem : (ps : List (List ℕ)) (x : List ℕ) → fed_all (feed_spare b st x) (given_or st (feed_of b st x)) ps ≡ given_or st (feed_of b st (x ++ joined ps))
   unfolding fed_all joined
-  fed_all_lem [] x = ap (λ (l : List ℕ). (feed_of b st l).state) (sym (append-nil x))
+  fed_all_lem [] x = ap (λ (l : List ℕ). given_or st (feed_of b st l)) (sym (append-nil x))
   fed_all_lem (p ∷ ps) x =
       let j = feed_joins b st x p in
-      ap₂ (λ (c : Book) (f : Fed). fed_all c f.state ps) j.spare j.fed
-      ∙ fed_all_lem ps (x ++ p) ∙ ap (λ (l : List ℕ). (feed_of b st l).state) (append_assoc x p (joined ps))
+      ap₂ (λ (c : Book) (s : Reader). fed_all c s ps) j.spare j.state
+      ∙ fed_all_lem ps (x ++ p) ∙ ap (λ (l : List ℕ). given_or st (feed_of b st l)) (append_assoc x p (joined ps))
 
-  spare_all_lem : (ps : List (List ℕ)) (x : List ℕ) → spare_all (feed_spare b st x) (feed_of b st x).state ps ≡ feed_spare b st (x ++ joined ps)
+  spare_all_lem : (ps : List (List ℕ)) (x : List ℕ) → spare_all (feed_spare b st x) (given_or st (feed_of b st x)) ps ≡ feed_spare b st (x ++ joined ps)
   unfolding spare_all joined
   spare_all_lem [] x = ap (feed_spare b st) (sym (append-nil x))
   spare_all_lem (p ∷ ps) x =
       let j = feed_joins b st x p in
-      ap₂ (λ (c : Book) (f : Fed). spare_all c f.state ps) j.spare j.fed
+      ap₂ (λ (c : Book) (s : Reader). spare_all c s ps) j.spare j.state
       ∙ spare_all_lem ps (x ++ p) ∙ ap (feed_spare b st) (append_assoc x p (joined ps))
 
 -- ---- a fresh state
@@ -109,8 +108,8 @@ module _ (b : Book) (z : Sized b) where
   abbrev is_taken : taken b fresh ≡ true
   is_taken = takes_taken b fresh (fresh_takes b z)
 
-  state_is : (s : List ℕ) → (feed_of b fresh s).state ≡ state_fed b fresh s
-  state_is s = ap (λ (f : Fed). f.state) (feed_taken b fresh s is_taken)
+  state_is : (s : List ℕ) → given_or fresh (feed_of b fresh s) ≡ state_fed b fresh s
+  state_is s = ap (given_or fresh) (feed_taken b fresh s is_taken)
 
   spare_is : (s : List ℕ) → feed_spare b fresh s ≡ spare_fed b fresh s
   spare_is s = spare_taken b fresh s is_taken
@@ -133,7 +132,7 @@ pub pieces_taken : PiecesTaken
 pieces_taken b z pieces piece =
     let c = spare_all b fresh pieces in
     let st = fed_all b fresh pieces in
-    ap (λ (f : Fed). f.number) (feed_taken c st piece (takes_taken c st (all_takes b z pieces)))
+    ap result_number (feed_taken c st piece (takes_taken c st (all_takes b z pieces)))
 
 -- ---- the end
 
@@ -175,7 +174,7 @@ module _ (b c : Book) (zb : Sized b) (zc : Sized c) (same : length b.ids ≡ len
       ap (has_ended state.kept) l.phase ∙ not_ended (wants (front s).rest) (front s).ends e state.kept in
       let f = case_finish spare state c (unended usable h) in
       let r = case_read c s (malformed zc (read_is s ∙ ap (rows_by (front s).rows) e)) in
-      (sym f.0 ∙ r.0, sym f.1 ∙ r.1)
+      (sym f.answer ∙ r.0, sym f.after ∙ r.1)
 
   -- a card
   module _ (e : (front s).ends ≡ closed) where
@@ -189,7 +188,7 @@ module _ (b c : Book) (zb : Sized b) (zc : Sized c) (same : length b.ids ≡ len
     unfolding has_ended
     has_ended_lem = let l = left_fresh s b in ap₂ has_ended (l.kept ∙ ap length kept_none) (l.phase ∙ phase_closed)
 
-    card_read : read_card s ≡ some (front s).rows
+    card_read : read_card s ≡ Some (front s).rows
     card_read = read_is s ∙ ap (rows_by (front s).rows) e
 
     copied_loaded : length (front s).rows ≤ length c.ids → copied (length (front s).rows) spare c ≡ loaded c (front s).rows
@@ -208,14 +207,14 @@ module _ (b c : Book) (zb : Sized b) (zc : Sized c) (same : length b.ids ≡ len
             let h = ltb-true (length c.ids) (length (front s).rows) q in
             let f = case_finish spare state c (no_room_lem usable has_ended_lem (omega arith)) in
             let r = case_read c s (no-room-read zc (front s).rows card_read h) in
-            (sym f.0 ∙ r.0, sym f.1 ∙ r.1)
+            (sym f.answer ∙ r.0, sym f.after ∙ r.1)
         on false q =
             let m = (left_fresh s b).rows in
             let h = ltb-false (length c.ids) (length (front s).rows) q in
             let f = case_finish spare state c (finished usable has_ended_lem (omega arith)) in
             let r = case_read c s (read zc (front s).rows card_read h) in (
-              sym f.0 ∙ ap Rows m ∙ r.0,
-              sym f.1 ∙ ap (λ (n : ℕ). copied n spare c) m ∙ copied_loaded h ∙ r.1,
+              sym f.answer ∙ ap Ok m ∙ r.0,
+              sym f.after ∙ ap (λ (n : ℕ). copied n spare c) m ∙ copied_loaded h ∙ r.1,
             )
 
   alike : Alike

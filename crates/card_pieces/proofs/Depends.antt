@@ -1,18 +1,15 @@
 -- What the answers of a piece and of the end depend on.
-use mathlib.Core.Path.{◌≡◌, refl, sym, ap, ap₂, ◌∙◌}
-use mathlib.Core.Bool.{Bool, true, false, cond}
+use mathlib.Core.Path.{◌≡◌, ap, ap₂}
+use mathlib.Core.Bool.{Bool, cond}
 use mathlib.Core.List.{List, ◌++◌}
 use Prim.Native.Nat.{ℕ}
-use native.Mathlib.Omega.{arith}
-use Rattle.refusal.specs.Number.{number_of, done}
+use Rattle.std.specs.Prelude.{Ok, Err}
 use Rattle.refusal.specs.declared.Refusal.TheVariants.{UnsoundBook}
 use Rattle.key_book.specs.Book.{Book}
 use Rattle.card_pieces.specs.declared.Reader.{Reader}
-use Rattle.card_pieces.specs.declared.Fed.{Fed}
 use Rattle.card_pieces.specs.Runs.{Outcome}
 use Rattle.card_pieces.specs.Pieces.{held, reads_on, state_fed, spare_fed, taken, feed_of, feed_spare, finish_of}
 use Rattle.card_pieces.specs.Laws.{SameRead, PiecesDepend}
-use Rattle.card_pieces.proofs.Joins.{feed_taken, feed_refused}
 
 module _ (b : Book) (st other : Reader) (h : SameRead st other) (piece : List ℕ) where
   same_taken : taken b st ≡ taken b other
@@ -34,14 +31,9 @@ module _ (b : Book) (st other : Reader) (h : SameRead st other) (piece : List �
   unfolding state_fed reads_on
   same_fed = rw (h.bytes, h.rows, h.low, h.form, h.phase)
 
-  same_state : (feed_of b st piece).number ≡ done → feed_of b st piece ≡ feed_of b other piece
-  same_state n = on (taken b st) refl
-    where
-      on : (t : Bool) → taken b st ≡ t → feed_of b st piece ≡ feed_of b other piece
-      on true e =
-          feed_taken b st piece e ∙ ap {B = Fed} (λ (x : Reader). record { number = done; state = x }) same_fed
-          ∙ sym (feed_taken b other piece (sym same_taken ∙ e))
-      on false e = absurd (let z : number_of UnsoundBook ≡ done = sym (ap (λ (x : Fed). x.number) (feed_refused b st piece e)) ∙ n in omega arith)
+  same_state : feed_of b st piece ≡ feed_of b other piece
+  unfolding feed_of
+  same_state = ap₂ (λ (t : Bool) (x : Reader). cond t (Ok x) (Err UnsoundBook)) same_taken same_fed
 
 pub pieces_depend : PiecesDepend
 unfolding finish_of

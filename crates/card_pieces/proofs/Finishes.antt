@@ -2,31 +2,32 @@
 use mathlib.Core.Path.{◌≡◌, refl, sym, ap, ◌∙◌}
 use mathlib.Core.Bool.{Bool, true, false, not, cond, ◌&&◌, and-eq-true_iff, true≢false}
 use mathlib.Mathlib.Data.Bool.Basic.{eq-false-eq-not-eq-true}
-use mathlib.Core.List.{List}
-use Prim.Native.Nat.{ℕ, ◌+◌, ◌*◌, ◌≤◌, ◌<◌}
+use mathlib.Core.List.{List, ◌++◌}
+use Prim.Native.Nat.{ℕ, ◌*◌, ◌≤◌, ◌<◌}
 use native.Mathlib.Omega.{arith}
 use borrow.Author.Tests.{eq-eqb, eqb-true, lt-ltb, le-ltb, ltb-true, ltb-false, not-true, not-false}
 use lib.Dec.{ltb, eqb}
-use lib.ListN.{length, take}
+use lib.ListN.{length, take, drop}
 use lib.Seq.{length-take-le}
 use Rattle.octets.specs.Bytes.{written}
+use Rattle.octets.proofs.Written.{written_front}
 use Rattle.refusal.specs.declared.Refusal.TheVariants.{UnsoundBook, MalformedCard, NoRoomForRows}
 use Rattle.key_book.specs.Limits.{slot_size, room_most}
 use Rattle.key_book.specs.Book.{Book, book_of, Sized, sized}
 use Rattle.key_book.proofs.Says.{sized_says}
-use Rattle.book_card.specs.declared.ReadAnswer.{ReadAnswer}
-use Rattle.book_card.specs.declared.ReadAnswer.TheVariants.{Refused, Rows}
 use Rattle.card_pieces.specs.declared.Reader.{Reader}
 use Rattle.card_pieces.specs.Pieces.{within, has_ended, finish_as, finish_of, copied, finish_by, finish_book}
 use Rattle.card_pieces.specs.Laws.{Usable}
 use Rattle.card_pieces.proofs.Limits.{within_says}
+use Rattle.std.specs.Prelude.{Err, Ok, Result}
+use Rattle.refusal.specs.declared.Refusal.{Refusal}
 
-pub data FinishCase (b : Book) (st : Reader) (c : Book) : ReadAnswer → Book → Type 0 where
-  unsound : (Usable b st c → ⊥) → FinishCase b st c (Refused UnsoundBook) c
-  unended : Usable b st c → has_ended st.kept st.phase ≡ false → FinishCase b st c (Refused MalformedCard) c
-  no_room_lem : Usable b st c → has_ended st.kept st.phase ≡ true → length c.ids < st.rows → FinishCase b st c (Refused NoRoomForRows) c
+pub data FinishCase (b : Book) (st : Reader) (c : Book) : Result ℕ Refusal → Book → Type 0 where
+  unsound : (Usable b st c → ⊥) → FinishCase b st c (Err UnsoundBook) c
+  unended : Usable b st c → has_ended st.kept st.phase ≡ false → FinishCase b st c (Err MalformedCard) c
+  no_room_lem : Usable b st c → has_ended st.kept st.phase ≡ true → length c.ids < st.rows → FinishCase b st c (Err NoRoomForRows) c
   finished : Usable b st c → has_ended st.kept st.phase ≡ true → st.rows ≤ length c.ids
-      → FinishCase b st c (Rows st.rows) (copied st.rows b c)
+      → FinishCase b st c (Ok st.rows) (copied st.rows b c)
 
 module _ (b : Book) (st : Reader) (c : Book) where
   abbrev usable : Bool
@@ -50,23 +51,27 @@ module _ (b : Book) (st : Reader) (c : Book) where
             st).1 u.limits,
       )
 
-  ends : (a : ReadAnswer) → a ≡ finish_of b st c → (a ≡ finish_of b st c) × (finish_by b c a ≡ finish_book b st c)
-  unfolding finish_book
-  ends a e = (e, ap (finish_by b c) e)
+  -- an end as the function's clauses have it: the answer, and the book afterwards
+  abbrev Ends : Result ℕ Refusal → Book → Type 0
+  Ends a d = record { answer : a ≡ finish_of b st c; after : d ≡ finish_book b st c }
 
-  pub case_finish : {a : ReadAnswer} {after : Book} → FinishCase b st c a after → (a ≡ finish_of b st c) × (after ≡ finish_book b st c)
+  ends : (a : Result ℕ Refusal) → a ≡ finish_of b st c → Ends a (finish_by b c a)
+  unfolding finish_book
+  ends a e = record { answer = e; after = ap (finish_by b c) e }
+
+  pub case_finish : {a : Result ℕ Refusal} {after : Book} → FinishCase b st c a after → Ends a after
   unfolding finish_of
-  case_finish (unsound h) = ends (Refused UnsoundBook) (rw ((eq-false-eq-not-eq-true usable).0 (λ e. h (usable_says e))))
-  case_finish (unended u e) = ends (Refused MalformedCard) (rw (usable_so u, e))
-  case_finish (no_room_lem u e l) = ends (Refused NoRoomForRows) (rw (usable_so u, e, lt-ltb (length c.ids) st.rows l))
-  case_finish (finished u e l) = ends (Rows st.rows) (rw (usable_so u, e, le-ltb (length c.ids) st.rows l))
+  case_finish (unsound h) = ends (Err UnsoundBook) (rw ((eq-false-eq-not-eq-true usable).0 (λ e. h (usable_says e))))
+  case_finish (unended u e) = ends (Err MalformedCard) (rw (usable_so u, e))
+  case_finish (no_room_lem u e l) = ends (Err NoRoomForRows) (rw (usable_so u, e, lt-ltb (length c.ids) st.rows l))
+  case_finish (finished u e l) = ends (Ok st.rows) (rw (usable_so u, e, le-ltb (length c.ids) st.rows l))
 
   -- and back: what is so where this is answered and left
-  abbrev Leaves : ReadAnswer → Type 0
+  abbrev Leaves : Result ℕ Refusal → Type 0
   Leaves a = FinishCase b st c a (finish_by b c a)
 
   by_end : Usable b st c → (t : Bool) → has_ended st.kept st.phase ≡ t → (u : Bool) → ltb (length c.ids) st.rows ≡ u
-      → Leaves (cond t (cond u (Refused NoRoomForRows) (Rows st.rows)) (Refused MalformedCard))
+      → Leaves (cond t (cond u (Err NoRoomForRows) (Ok st.rows)) (Err MalformedCard))
   by_end u false e v l = unended u e
   by_end u true e true l = no_room_lem u e (ltb-true _ _ l)
   by_end u true e false l = finished u e (ltb-false _ _ l)
@@ -75,7 +80,7 @@ module _ (b : Book) (st : Reader) (c : Book) where
   unfolding finish_of finish_book
   finish_case = on usable refl
     where
-      on : (t : Bool) → usable ≡ t → Leaves (cond t (finish_as (length c.ids) st) (Refused UnsoundBook))
+      on : (t : Bool) → usable ≡ t → Leaves (cond t (finish_as (length c.ids) st) (Err UnsoundBook))
       on true e = by_end (usable_says e) (has_ended st.kept st.phase) refl (ltb (length c.ids) st.rows) refl
       on false e = unsound (λ u. true≢false (sym (usable_so u) ∙ e))
 
@@ -110,15 +115,23 @@ has_room n b z h =
       in_sent = omega (arith, z.sent_agree);
     }
 
--- where so many elements have room, so has the front of a list
-pub front_fits : (n : ℕ) (from : List ℕ) (room : ℕ) → n ≤ length from → n ≤ room → 0 + length (take n from) ≤ room
-front_fits n from room h k = let e = length-take-le n from h in omega arith
+-- the front of one list before the rest of another
+front_written : (n : ℕ) (from old : List ℕ) → n ≤ length from → take n from ++ drop n old ≡ written 0 (take n from) old
+front_written n from old h =
+    sym (written_front (take n from) old ∙ ap (λ (k : ℕ). take n from ++ drop k old) (length-take-le n from h))
 
 -- what the code's own copies leave
-pub copied_all : (n : ℕ) (b c : Book) (ids lengths store marks received sent : List ℕ)
-    → ids ≡ written 0 (take n b.ids) c.ids → lengths ≡ written 0 (take n b.lengths) c.lengths
-    → store ≡ written 0 (take (slot_size * n) b.store) c.store → marks ≡ written 0 (take n b.marks) c.marks
-    → received ≡ written 0 (take n b.received) c.received → sent ≡ written 0 (take n b.sent) c.sent
+pub copied_all : (n : ℕ) (b c : Book) → Room n b → (ids lengths store marks received sent : List ℕ)
+    → ids ≡ take n b.ids ++ drop n c.ids → lengths ≡ take n b.lengths ++ drop n c.lengths
+    → store ≡ take (slot_size * n) b.store ++ drop (slot_size * n) c.store → marks ≡ take n b.marks ++ drop n c.marks
+    → received ≡ take n b.received ++ drop n c.received → sent ≡ take n b.sent ++ drop n c.sent
     → book_of ids lengths store marks received sent n ≡ copied n b c
 unfolding copied
-copied_all n b c ids lengths store marks received sent e₁ e₂ e₃ e₄ e₅ e₆ = λ i. book_of (e₁ i) (e₂ i) (e₃ i) (e₄ i) (e₅ i) (e₆ i) n
+copied_all n b c m ids lengths store marks received sent e₁ e₂ e₃ e₄ e₅ e₆ =
+    let w₁ = e₁ ∙ front_written n b.ids c.ids m.in_ids in
+    let w₂ = e₂ ∙ front_written n b.lengths c.lengths m.in_lengths in
+    let w₃ = e₃ ∙ front_written (slot_size * n) b.store c.store m.in_store in
+    let w₄ = e₄ ∙ front_written n b.marks c.marks m.in_marks in
+    let w₅ = e₅ ∙ front_written n b.received c.received m.in_received in
+    let w₆ = e₆ ∙ front_written n b.sent c.sent m.in_sent in
+    λ i. book_of (w₁ i) (w₂ i) (w₃ i) (w₄ i) (w₅ i) (w₆ i) n

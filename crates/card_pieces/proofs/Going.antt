@@ -8,7 +8,7 @@ use native.Mathlib.Omega.{arith}
 use borrow.Author.Tests.{eq-eqb, ne_eqb, eqb-true, eqb-false, ltb-true, ltb-false}
 use lib.Dec.{ltb, eqb}
 use lib.ListN.{length, take, drop, length-append, length-drop, drop_of_length-le}
-use lib.Seq.{length-take-le, take_all}
+use lib.Seq.{take_all}
 use lib.ListN.{length-replicate}
 use Rattle.octets.specs.Bytes.{written, zeros, filled}
 use Rattle.octets.proofs.Written.{written_join}
@@ -22,18 +22,17 @@ use Rattle.book_card.proofs.Forms.{form_append}
 use Rattle.book_card.proofs.Wants.{wants_nothing}
 use Rattle.card_pieces.specs.declared.Phase.{Phase}
 use Rattle.card_pieces.specs.declared.Phase.TheVariants.{Reading, Closed, Fault}
-use Rattle.card_pieces.specs.declared.RowsForm.{RowsForm}
-use Rattle.card_pieces.specs.declared.RowsForm.TheVariants.{Unknown, Known}
 use Rattle.card_pieces.specs.declared.Reader.{Reader}
 use Rattle.card_pieces.specs.declared.Pass.{Pass}
 use Rattle.card_pieces.specs.Runs.{Run, stopped_run, run, run_from, put_rows, Outcome, outcome, onward_by, onward, is_reading}
 use Rattle.card_pieces.specs.Pieces.{tail_most, window_size, form_by, form_after, state_with, settled}
 use Rattle.card_pieces.proofs.Runs.{run_is, run_wants, then_run, runs_append, run_fits}
 use Rattle.card_pieces.proofs.Spare.{put_append}
+use Rattle.std.specs.Prelude.{None, Option, Some}
 
 -- ---- the tail and the window
 
-pub state_is : (rest : List ℕ) (rows low : ℕ) (form : RowsForm) (phase : Phase) (tail : List ℕ) → tail ≡ written 0 rest (zeros tail_most)
+pub state_is : (rest : List ℕ) (rows low : ℕ) (form : Option CardForm) (phase : Phase) (tail : List ℕ) → tail ≡ written 0 rest (zeros tail_most)
     → ◌≡◌ {A = Reader} (record { tail = tail; kept = length rest; rows = rows; low = low; form = form; phase = phase })
     (state_with rest rows low form phase)
 unfolding state_with
@@ -41,13 +40,12 @@ state_is rest rows low form phase tail e =
     ap {B = Reader} (λ (x : List ℕ). record { tail = x; kept = length rest; rows = rows; low = low; form = form; phase = phase })
     (e ∙ written_zeros tail_most rest)
 
-pub window_is : (tail : List ℕ) (kept : ℕ) (s : List ℕ) → kept ≤ length tail → kept ≤ tail_most → length s ≤ record_most → (w₁ w₂ : List ℕ)
-    → w₁ ≡ written 0 (take kept tail) (zeros window_size) → w₂ ≡ written kept s w₁ → w₂ ≡ filled window_size (take kept tail ++ s)
-window_is tail kept s h k l w₁ w₂ e₁ e₂ =
-    let n : length (take kept tail) ≡ kept = length-take-le kept tail h in
+pub window_is : (kept s : List ℕ) → length kept ≤ tail_most → length s ≤ record_most → (w₁ w₂ : List ℕ)
+    → w₁ ≡ written 0 kept (zeros window_size) → w₂ ≡ written (length kept) s w₁ → w₂ ≡ filled window_size (kept ++ s)
+window_is kept s k l w₁ w₂ e₁ e₂ =
     let z : length (zeros window_size) ≡ window_size = length-replicate {A = ℕ} window_size 0 in
-    e₂ ∙ ap (written kept s) e₁
-    ∙ written_join 0 kept (take kept tail) s (zeros window_size) (omega arith) (omega arith) ∙ written_zeros window_size (take kept tail ++ s)
+    e₂ ∙ ap (written (length kept) s) e₁
+    ∙ written_join 0 (length kept) kept s (zeros window_size) (omega arith) (omega arith) ∙ written_zeros window_size (kept ++ s)
 
 -- the bytes in use of the window
 pub window_part : (held s : List ℕ) (end : ℕ) → end ≡ length held + length s → take end (filled window_size (held ++ s)) ≡ held ++ s
@@ -62,37 +60,38 @@ reading_is Fault e = absurd (true≢false (sym e))
 
 -- ---- the form
 
-pub after_same : (known : RowsForm) (form : CardForm) (n : ℕ) → form_after known form n n ≡ known
+pub after_same : (known : Option CardForm) (form : CardForm) (n : ℕ) → form_after known form n n ≡ known
 unfolding form_after
 after_same known form n = rw (eq-eqb n n refl)
 
-pub after_more : (known : RowsForm) (form : CardForm) (m n : ℕ) → m < n → form_after known form m n ≡ Known form
+pub after_more : (known : Option CardForm) (form : CardForm) (m n : ℕ) → m < n → form_after known form m n ≡ Some form
 unfolding form_after
 after_more known form m n h = rw (ne_eqb m n (λ e. omega arith))
 
 -- rows read in two parts
-pub after_twice : (known : RowsForm) (form : CardForm) (a b c : ℕ) → a ≤ b → b ≤ c → form_after (form_after known form a b) form b c ≡ form_after known form a c
+pub after_twice : (known : Option CardForm) (form : CardForm) (a b c : ℕ) → a ≤ b → b ≤ c
+    → form_after (form_after known form a b) form b c ≡ form_after known form a c
 after_twice known form a b c h k = on (eqb a b) refl (eqb b c) refl
   where
     on : (t : Bool) → eqb a b ≡ t → (u : Bool) → eqb b c ≡ u → form_after (form_after known form a b) form b c ≡ form_after known form a c
     on true p u q =
         let e = eqb-true a b p in
-        ap (λ (x : RowsForm). form_after x form b c) (ap (λ (x : ℕ). form_after known form x b) e ∙ after_same known form b)
+        ap (λ (x : Option CardForm). form_after x form b c) (ap (λ (x : ℕ). form_after known form x b) e ∙ after_same known form b)
         ∙ ap (λ (x : ℕ). form_after known form x c) (sym e)
     on false p u q =
         let e = eqb-false a b p in
         let l : a < b = omega (arith, e) in
-        ap (λ (x : RowsForm). form_after x form b c) (after_more known form a b l) ∙ known_stays u q ∙ sym (after_more known form a c (omega arith))
+        ap (λ (x : Option CardForm). form_after x form b c) (after_more known form a b l) ∙ known_stays u q ∙ sym (after_more known form a c (omega arith))
       where
-        known_stays : (u : Bool) → eqb b c ≡ u → form_after (Known form) form b c ≡ Known form
-        known_stays true q = ap (λ (x : ℕ). form_after (Known form) form b x) (sym (eqb-true b c q)) ∙ after_same (Known form) form b
-        known_stays false q = after_more (Known form) form b c (let e = eqb-false b c q in omega (arith, e))
+        known_stays : (u : Bool) → eqb b c ≡ u → form_after (Some form) form b c ≡ Some form
+        known_stays true q = ap (λ (x : ℕ). form_after (Some form) form b x) (sym (eqb-true b c q)) ∙ after_same (Some form) form b
+        known_stays false q = after_more (Some form) form b c (let e = eqb-false b c q in omega (arith, e))
 
 -- the form by the first bytes
-pub form_by_append : (s t : List ℕ) (known : RowsForm) → body_at ≤ length s → form_by (s ++ t) known ≡ form_by s known
+pub form_by_append : (s t : List ℕ) (known : Option CardForm) → body_at ≤ length s → form_by (s ++ t) known ≡ form_by s known
 unfolding form_by
-form_by_append s t Unknown h = form_append s t h
-form_by_append s t (Known form) h = refl
+form_by_append s t None h = form_append s t h
+form_by_append s t (Some form) h = refl
 
 -- ---- going on
 
@@ -196,11 +195,12 @@ module _ (form : CardForm) where
       pub piece_short : Inside → Stops (length s) → length part ≤ tail_most
       piece_short i h = rw part_is (short (passed (wants_left i h)))
 
-      pub piece_ends : Inside → Stops (length s) → (known formed : RowsForm) → formed ≡ form_after known form before p.rows
-          → (r : Reader) → r ≡ state_with part p.rows p.low formed p.phase → (r ≡ settled known form before whole) × (c ≡ whole.spare)
+      pub piece_ends : Inside → Stops (length s) → (known formed : Option CardForm) → formed ≡ form_after known form before p.rows
+          → (r : Reader) → r ≡ state_with part p.rows p.low formed p.phase → record { state : r ≡ settled known form before whole; spare : c ≡ whole.spare }
       unfolding settled
       piece_ends i h known formed ef r er =
-          let o = passed (wants_left i h) in (
-            er ∙ ap₂ (λ (x : List ℕ) (y : RowsForm). state_with x p.rows p.low y p.phase) part_is ef ∙ sym (ap (settled known form before) o),
-            sym (ap (λ (x : Outcome). x.spare) o),
-          )
+          let o = passed (wants_left i h) in
+          record {
+            state = er ∙ ap₂ (λ (x : List ℕ) (y : Option CardForm). state_with x p.rows p.low y p.phase) part_is ef ∙ sym (ap (settled known form before) o);
+            spare = sym (ap (λ (x : Outcome). x.spare) o);
+          }

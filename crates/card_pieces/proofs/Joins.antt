@@ -9,7 +9,8 @@ use native.Mathlib.Omega.{arith}
 use borrow.Author.Tests.{ltb-true, ltb-false}
 use lib.Dec.{ltb, eqb}
 use lib.ListN.{length, drop}
-use Rattle.refusal.specs.Number.{number_of, done}
+use Rattle.std.specs.Prelude.{Option, Ok, Err}
+use Rattle.refusal.specs.Number.{number_of, result_number, given_or}
 use Rattle.refusal.specs.declared.Refusal.TheVariants.{UnsoundBook}
 use Rattle.octets.proofs.Filled.{length_filled, take_filled, drop_filled}
 use Rattle.key_book.specs.Limits.{rows_most}
@@ -24,9 +25,7 @@ use Rattle.book_card.specs.Reader.{front_of, wants, row_front}
 use Rattle.book_card.proofs.Fronts.{front_short}
 use Rattle.card_pieces.specs.declared.Phase.{Phase}
 use Rattle.card_pieces.specs.declared.Phase.TheVariants.{Reading, Closed, Fault}
-use Rattle.card_pieces.specs.declared.RowsForm.{RowsForm}
 use Rattle.card_pieces.specs.declared.Reader.{Reader}
-use Rattle.card_pieces.specs.declared.Fed.{Fed}
 use Rattle.card_pieces.specs.Runs.{Run, stopped_run, run, run_from, put_rows, Outcome, outcome}
 use Rattle.card_pieces.specs.Pieces.{tail_most, held, form_by, form_after, state_with, settled, reads_on, state_fed, spare_fed, taken, feed_of, feed_spare}
 use Rattle.card_pieces.specs.Laws.{Within, Takes, TailSays, TailZero, Joins, FeedJoins}
@@ -45,11 +44,11 @@ module _ (b : Book) (st : Reader) where
   taken_takes e = let t = simp (and-eq-true_iff) at e in record { sizes = (sized_says b).0 t.0; limits = (within_says st).0 t.1 }
 
   module _ (piece : List ℕ) where
-    pub feed_taken : taken b st ≡ true → feed_of b st piece ≡ record { number = done; state = state_fed b st piece }
+    pub feed_taken : taken b st ≡ true → feed_of b st piece ≡ Ok (state_fed b st piece)
     unfolding feed_of
     feed_taken h = rw h
 
-    pub feed_refused : taken b st ≡ false → feed_of b st piece ≡ record { number = number_of UnsoundBook; state = st }
+    pub feed_refused : taken b st ≡ false → feed_of b st piece ≡ Err UnsoundBook
     unfolding feed_of
     feed_refused h = rw h
 
@@ -63,7 +62,7 @@ module _ (b : Book) (st : Reader) where
 
 -- ---- the state after reading
 
-module _ (known : RowsForm) (form : CardForm) (n : ℕ) (o : Outcome) where
+module _ (known : Option CardForm) (form : CardForm) (n : ℕ) (o : Outcome) where
   held_settled : held (settled known form n o) ≡ o.rest
   unfolding settled state_with
   held_settled = take_filled tail_most o.rest (length o.rest) refl
@@ -76,7 +75,7 @@ module _ (b : Book) (st : Reader) (w : Within st) (s : List ℕ) where
   fits : RunFits formed (rows_most - st.rows) (run_from formed st.low st.rows s st.phase)
   fits = runs_fit formed st.low st.rows s st.phase
 
-  tail_settled : (known : RowsForm) (form : CardForm) → TailSays (settled known form st.rows (reads_on b st s))
+  tail_settled : (known : Option CardForm) (form : CardForm) → TailSays (settled known form st.rows (reads_on b st s))
   unfolding settled state_with reads_on outcome
   tail_settled known form =
       let f = fits in
@@ -108,10 +107,10 @@ takes_again b st piece t =
 pub tail_zero : TailZero
 tail_zero b st piece h = on (taken b st) refl
   where
-    on : (t : Bool) → taken b st ≡ t → TailSays (feed_of b st piece).state
+    on : (t : Bool) → taken b st ≡ t → TailSays (given_or st (feed_of b st piece))
     on true e = rw (feed_taken b st piece e) (tail_fed b st piece (taken_takes b st e).limits)
     on false e =
-        let r : (feed_of b st piece).number ≡ number_of UnsoundBook = ap (λ (f : Fed). f.number) (feed_refused b st piece e) in
+        let r : result_number (feed_of b st piece) ≡ number_of UnsoundBook = ap result_number (feed_refused b st piece e) in
         absurd (omega arith)
 
 -- ---- no row, in whatever form
@@ -178,7 +177,7 @@ module _ (form : CardForm) where
 
 -- ---- one part and then another
 
-module _ (b : Book) (known : RowsForm) (low n : ℕ) (s y : List ℕ) (phase : Phase) where
+module _ (b : Book) (known : Option CardForm) (low n : ℕ) (s y : List ℕ) (phase : Phase) where
   -- the form of the first part, and of both
   abbrev first : CardForm
   first = form_by s known
@@ -194,7 +193,7 @@ module _ (b : Book) (known : RowsForm) (low n : ℕ) (s y : List ℕ) (phase : P
   whole = outcome b n (run_from both low n (s ++ y) phase)
 
   -- what is known of the form then, the form of the second part, and what this leaves, where the first part left o
-  abbrev known_at : Outcome → RowsForm
+  abbrev known_at : Outcome → Option CardForm
   known_at o = form_after known first n o.rows
 
   abbrev second : Outcome → CardForm
@@ -327,7 +326,7 @@ module _ (b : Book) (st : Reader) (w : Within st) (x y : List ℕ) where
   state_joined =
       ap (λ (l : List ℕ). settled (state_fed b st x).form (form_by (l ++ y) (state_fed b st x).form) (state_fed b st x).rows
       (reads_on (spare_fed b st x) (state_fed b st x) (l ++ y))) rest_held
-      ∙ ap₂ (λ (o : Outcome) (f : RowsForm). state_with o.rest o.rows o.low f o.phase) met.left_alike met.form_alike
+      ∙ ap₂ (λ (o : Outcome) (f : Option CardForm). state_with o.rest o.rows o.low f o.phase) met.left_alike met.form_alike
       ∙ ap (λ (l : List ℕ). settled st.form (form_by l st.form) st.rows (reads_on b st l)) assoc
 
 module _ (b : Book) (st : Reader) (x y : List ℕ) where
@@ -337,11 +336,15 @@ module _ (b : Book) (st : Reader) (x y : List ℕ) where
       let c = spare_fed b st x in
       let next = state_fed b st x in
       let e₁ : feed_spare b st x ≡ c = spare_taken b st x h in
-      let e₂ : (feed_of b st x).state ≡ next = ap (λ (f : Fed). f.state) (feed_taken b st x h) in
+      let e₂ : given_or st (feed_of b st x) ≡ next = ap (given_or st) (feed_taken b st x h) in
       let again : taken c next ≡ true = takes_taken c next (takes_again b st x t) in
+      let e₃ : feed_of (feed_spare b st x) (given_or st (feed_of b st x)) y ≡ Ok (state_fed c next y) =
+      ap₂ (λ (d : Book) (s : Reader). feed_of d s y) e₁ e₂ ∙ feed_taken c next y again in
+      let e₄ = state_joined b st t.limits x y in
+      let e₅ = feed_taken b st (x ++ y) h in
       record {
-        fed = ap₂ (λ (d : Book) (s : Reader). feed_of d s y) e₁ e₂ ∙ feed_taken c next y again
-            ∙ ap {B = Fed} (λ (s : Reader). record { number = done; state = s }) (state_joined b st t.limits x y) ∙ sym (feed_taken b st (x ++ y) h);
+        fed = e₃ ∙ ap Ok e₄ ∙ sym e₅;
+        state = ap (given_or (given_or st (feed_of b st x))) e₃ ∙ e₄ ∙ ap (given_or st) (sym e₅);
         spare = ap₂ (λ (d : Book) (s : Reader). feed_spare d s y) e₁ e₂ ∙ spare_taken c next y again
             ∙ spare_joined b st t.limits x y ∙ sym (spare_taken b st (x ++ y) h);
       }
@@ -349,9 +352,13 @@ module _ (b : Book) (st : Reader) (x y : List ℕ) where
   joins_refused : taken b st ≡ false → Joins b st x y
   joins_refused h =
       let e₁ : feed_spare b st x ≡ b = spare_refused b st x h in
-      let e₂ : (feed_of b st x).state ≡ st = ap (λ (f : Fed). f.state) (feed_refused b st x h) in
+      let e₂ : given_or st (feed_of b st x) ≡ st = ap (given_or st) (feed_refused b st x h) in
+      let e₃ : feed_of (feed_spare b st x) (given_or st (feed_of b st x)) y ≡ Err UnsoundBook =
+      ap₂ (λ (d : Book) (s : Reader). feed_of d s y) e₁ e₂ ∙ feed_refused b st y h in
+      let e₄ = feed_refused b st (x ++ y) h in
       record {
-        fed = ap₂ (λ (d : Book) (s : Reader). feed_of d s y) e₁ e₂ ∙ feed_refused b st y h ∙ sym (feed_refused b st (x ++ y) h);
+        fed = e₃ ∙ sym e₄;
+        state = ap (given_or (given_or st (feed_of b st x))) e₃ ∙ e₂ ∙ ap (given_or st) (sym e₄);
         spare = ap₂ (λ (d : Book) (s : Reader). feed_spare d s y) e₁ e₂ ∙ spare_refused b st y h ∙ sym (spare_refused b st (x ++ y) h);
       }
 

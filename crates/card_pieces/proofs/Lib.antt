@@ -4,8 +4,6 @@ pub mod Runs
 pub mod Passing
 pub mod Going
 pub mod Behind
-pub mod Parts
-pub mod Copying
 pub mod Finishes
 pub mod Joins
 pub mod Feeding

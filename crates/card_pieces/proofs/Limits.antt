@@ -11,11 +11,11 @@ use Rattle.card_pieces.specs.declared.Phase.{Phase}
 use Rattle.card_pieces.specs.declared.Phase.TheVariants.{Reading, Closed, Fault}
 use Rattle.book_card.specs.declared.CardForm.TheVariants.{Old, New}
 use Rattle.book_card.specs.Layout.{row_kind}
-use Rattle.card_pieces.specs.declared.RowsForm.{RowsForm}
-use Rattle.card_pieces.specs.declared.RowsForm.TheVariants.{Unknown, Known}
 use Rattle.card_pieces.specs.Numbers.{form_number, form_numbered, phase_number, phase_numbered, are_numbers}
 use Rattle.card_pieces.specs.Pieces.{tail_most, within, has_ended}
 use Rattle.card_pieces.specs.Laws.{WithinSays, Ended, EndedSays, NumbersBack}
+use Rattle.std.specs.Prelude.{None, Option, Some}
+use Rattle.book_card.specs.declared.CardForm.{CardForm}
 
 pub within_says : WithinSays
 unfolding within
@@ -39,11 +39,11 @@ ended_says st = (
 
 -- ---- numbers
 
-form_there : (form : RowsForm) → form_numbered (form_number form) ≡ form
+form_there : (form : Option CardForm) → form_numbered (form_number form) ≡ form
 unfolding form_number form_numbered row_kind
-form_there Unknown = refl
-form_there (Known Old) = refl
-form_there (Known New) = refl
+form_there None = refl
+form_there (Some Old) = refl
+form_there (Some New) = refl
 
 phase_there : (phase : Phase) → phase_numbered (phase_number phase) ≡ phase
 unfolding phase_number phase_numbered
@@ -51,7 +51,7 @@ phase_there Reading = refl
 phase_there Closed = refl
 phase_there Fault = refl
 
-pub are_numbers_lem : (form : RowsForm) (phase : Phase) → are_numbers (form_number form) (phase_number phase) ≡ true
+pub are_numbers_lem : (form : Option CardForm) (phase : Phase) → are_numbers (form_number form) (phase_number phase) ≡ true
 unfolding are_numbers
 are_numbers_lem form phase =
     rw (eq-eqb _ (form_number form) (ap form_number (form_there form)), eq-eqb _ (phase_number phase) (ap phase_number (phase_there phase)))
@@ -61,7 +61,7 @@ form_one : (n : ℕ) → form_number (form_numbered n) ≡ n → (n ≡ 0) ⊎ (
 unfolding form_number form_numbered row_kind
 form_one n e = on (eqb n 1) refl (eqb n 3) refl e
   where
-    on : (t : Bool) → eqb n 1 ≡ t → (u : Bool) → eqb n 3 ≡ u → form_number (cond t (Known Old) (cond u (Known New) Unknown)) ≡ n
+    on : (t : Bool) → eqb n 1 ≡ t → (u : Bool) → eqb n 3 ≡ u → form_number (cond t (Some Old) (cond u (Some New) None)) ≡ n
         → (n ≡ 0) ⊎ ((n ≡ 1) ⊎ (n ≡ 3))
     on true p u q e = inr (inl (eqb-true n 1 p))
     on false p true q e = inr (inr (eqb-true n 3 q))

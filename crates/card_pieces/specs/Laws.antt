@@ -1,6 +1,6 @@
 -- What is proved of reading in pieces, each as a closed statement: docs/RULES.md, 'The card in pieces'. The proofs are in proofs/.
-use Rattle.std.specs.Prelude.{◌≡◌, ◌↔◌, ◌≢◌, ◌⊎◌, true, List, [], ◌∷◌, ◌++◌, map, ℕ, ◌-◌, ◌≤◌, length, take, drop}
-use Rattle.refusal.specs.Number.{done}
+use Rattle.std.specs.Prelude.{◌≡◌, ◌↔◌, ◌≢◌, ◌⊎◌, true, List, [], ◌∷◌, ◌++◌, map, ℕ, ◌-◌, ◌≤◌, length, take, drop, Option}
+use Rattle.refusal.specs.Number.{done, result_number, given_or}
 use Rattle.octets.specs.Bytes.{Bytes, written, zeros}
 use Rattle.key_book.specs.Limits.{rows_most}
 use Rattle.key_book.specs.Book.{Book, book_of, Sized, sized}
@@ -8,7 +8,6 @@ use Rattle.book_card.specs.declared.CardForm.{CardForm}
 use Rattle.book_card.specs.Card.{Row, row_records, InOrder}
 use Rattle.book_card.specs.Reader.{form_in, rows_in_front}
 use Rattle.book_card.specs.Reading.{slots_of, read_of, read_book}
-use Rattle.card_pieces.specs.declared.RowsForm.{RowsForm}
 use Rattle.card_pieces.specs.declared.Phase.{Phase}
 use Rattle.card_pieces.specs.declared.Phase.TheVariants.{Reading, Closed}
 use Rattle.card_pieces.specs.declared.Reader.{Reader}
@@ -47,7 +46,7 @@ EndedSays = (st : Reader) → (has_ended st.kept st.phase ≡ true) ↔ Ended st
 
 -- the numbers of forms and of phases: each stands for one form or phase and back, and no others are numbers
 pub record NumbersBack : Type 0 where
-  pub form_back : (form : RowsForm) → form_numbered (form_number form) ≡ form
+  pub form_back : (form : Option CardForm) → form_numbered (form_number form) ≡ form
   pub phase_back : (phase : Phase) → phase_numbered (phase_number phase) ≡ phase
   pub known : (form phase : ℕ) → (are_numbers form phase ≡ true) ↔ (((form ≡ 0) ⊎ ((form ≡ 1) ⊎ (form ≡ 3))) × (phase ≤ 2))
 
@@ -65,8 +64,7 @@ pub record SameRead (st other : Reader) : Type 0 where
 -- a piece's answer: of the tail, on the bytes in use alone; the end's: on the sizes, and of the state on the counts and the phase
 pub record PiecesDepend : Type 0 where
   pub piece_spare : (b : Book) (st other : Reader) → SameRead st other → (piece : List ℕ) → feed_spare b st piece ≡ feed_spare b other piece
-  pub piece_state : (b : Book) (st other : Reader) → SameRead st other → (piece : List ℕ) → (feed_of b st piece).number ≡ done
-      → feed_of b st piece ≡ feed_of b other piece
+  pub piece_state : (b : Book) (st other : Reader) → SameRead st other → (piece : List ℕ) → feed_of b st piece ≡ feed_of b other piece
   pub end_answer : (a b c : Book) → sized a ≡ sized b → length a.ids ≡ length b.ids
       → (st other : Reader) → st.kept ≡ other.kept → st.rows ≡ other.rows → st.phase ≡ other.phase → finish_of a st c ≡ finish_of b other c
 
@@ -79,14 +77,15 @@ pub record TailSays (st : Reader) : Type 0 where
   pub limits : Within st
 
 abbrev pub TailZero : Type 0
-TailZero = (b : Book) (st : Reader) (piece : List ℕ) → (feed_of b st piece).number ≡ done → TailSays (feed_of b st piece).state
+TailZero = (b : Book) (st : Reader) (piece : List ℕ) → result_number (feed_of b st piece) ≡ done → TailSays (given_or st (feed_of b st piece))
 
 -- ---- two pieces, or the two as one
 
--- the same number, state and spare rows
+-- the same answer, state and spare rows
 pub record Joins (b : Book) (st : Reader) (x y : List ℕ) : Type 0 where
-  pub fed : feed_of (feed_spare b st x) (feed_of b st x).state y ≡ feed_of b st (x ++ y)
-  pub spare : feed_spare (feed_spare b st x) (feed_of b st x).state y ≡ feed_spare b st (x ++ y)
+  pub fed : feed_of (feed_spare b st x) (given_or st (feed_of b st x)) y ≡ feed_of b st (x ++ y)
+  pub state : given_or (given_or st (feed_of b st x)) (feed_of (feed_spare b st x) (given_or st (feed_of b st x)) y) ≡ given_or st (feed_of b st (x ++ y))
+  pub spare : feed_spare (feed_spare b st x) (given_or st (feed_of b st x)) y ≡ feed_spare b st (x ++ y)
 
 -- on any state and any spare rows: where one call is refused, so are the others, and nothing is changed
 abbrev pub FeedJoins : Type 0
@@ -97,11 +96,11 @@ FeedJoins = (b : Book) (st : Reader) (x y : List ℕ) → Joins b st x y
 -- the state and the spare rows after pieces, each call given what the last one left
 unfoldable pub fed_all : Book → Reader → List (List ℕ) → Reader
 fed_all b st [] = st
-fed_all b st (p ∷ ps) = fed_all (feed_spare b st p) (feed_of b st p).state ps
+fed_all b st (p ∷ ps) = fed_all (feed_spare b st p) (given_or st (feed_of b st p)) ps
 
 unfoldable pub spare_all : Book → Reader → List (List ℕ) → Book
 spare_all b st [] = b
-spare_all b st (p ∷ ps) = spare_all (feed_spare b st p) (feed_of b st p).state ps
+spare_all b st (p ∷ ps) = spare_all (feed_spare b st p) (given_or st (feed_of b st p)) ps
 
 -- the pieces as one
 unfoldable pub joined : List (List ℕ) → List ℕ
@@ -149,4 +148,4 @@ AnyCutting = (b c : Book) → Sized b → Sized c → length b.ids ≡ length c.
 -- and each piece is taken on the way
 abbrev pub PiecesTaken : Type 0
 PiecesTaken =
-    (b : Book) → Sized b → (pieces : List (List ℕ)) (piece : List ℕ) → (feed_of (spare_all b fresh pieces) (fed_all b fresh pieces) piece).number ≡ done
+    (b : Book) → Sized b → (pieces : List (List ℕ)) (piece : List ℕ) → result_number (feed_of (spare_all b fresh pieces) (fed_all b fresh pieces) piece) ≡ done

@@ -1,20 +1,19 @@
 -- A state's form and phase as numbers (docs/RULES.md, 'The card in pieces'), for a caller that has it in parts.
-use Rattle.std.specs.Prelude.{Bool, cond, ◌&&◌, ℕ, eqb}
+use Rattle.std.specs.Prelude.{Bool, cond, ◌&&◌, ℕ, eqb, None, Option, Some}
 use Rattle.book_card.specs.declared.CardForm.TheVariants.{Old, New}
 use Rattle.book_card.specs.Layout.{row_kind}
-use Rattle.card_pieces.specs.declared.RowsForm.{RowsForm}
-use Rattle.card_pieces.specs.declared.RowsForm.TheVariants.{Unknown, Known}
 use Rattle.card_pieces.specs.declared.Phase.{Phase}
 use Rattle.card_pieces.specs.declared.Phase.TheVariants.{Reading, Closed, Fault}
+use Rattle.book_card.specs.declared.CardForm.{CardForm}
 
 -- the form: the kind of the rows read, 0 where none was
-unfoldable pub form_number : RowsForm → ℕ
-form_number Unknown = 0
-form_number (Known form) = row_kind form
+unfoldable pub form_number : Option CardForm → ℕ
+form_number None = 0
+form_number (Some form) = row_kind form
 
--- and back; of a number that is no form's the unknown one
-unfoldable pub form_numbered : ℕ → RowsForm
-form_numbered n = cond (eqb n (row_kind Old)) (Known Old) (cond (eqb n (row_kind New)) (Known New) Unknown)
+-- and back; of a number that is no form's none
+unfoldable pub form_numbered : ℕ → Option CardForm
+form_numbered n = cond (eqb n (row_kind Old)) (Some Old) (cond (eqb n (row_kind New)) (Some New) None)
 
 -- the phase
 unfoldable pub phase_number : Phase → ℕ

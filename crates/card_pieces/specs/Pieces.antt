@@ -1,7 +1,6 @@
 -- Reading a card in pieces (docs/RULES.md, 'The card in pieces'): the state, what a piece makes of it and of the spare rows, and the end. Every state has
 -- an answer, also one that no card makes.
-use Rattle.std.specs.Prelude.{Bool, false, cond, ◌&&◌, List, ◌++◌, ℕ, ◌+◌, ◌-◌, ◌*◌, leb, ltb, eqb, length, take}
-use Rattle.refusal.specs.Number.{number_of, done}
+use Rattle.std.specs.Prelude.{Bool, false, cond, ◌&&◌, List, ◌++◌, ℕ, ◌+◌, ◌-◌, ◌*◌, leb, ltb, eqb, length, take, Err, None, Ok, Option, Result, Some}
 use Rattle.refusal.specs.declared.Refusal.TheVariants.{UnsoundBook, MalformedCard, NoRoomForRows}
 use Rattle.octets.specs.Bytes.{written, zeros, filled}
 use Rattle.key_book.specs.Limits.{rows_most, slot_size}
@@ -9,15 +8,11 @@ use Rattle.key_book.specs.Book.{Book, book_of, sized}
 use Rattle.book_card.specs.declared.CardForm.{CardForm}
 use Rattle.book_card.specs.Layout.{record_most}
 use Rattle.book_card.specs.Reader.{form_in}
-use Rattle.book_card.specs.declared.ReadAnswer.{ReadAnswer}
-use Rattle.book_card.specs.declared.ReadAnswer.TheVariants.{Refused, Rows}
-use Rattle.card_pieces.specs.declared.RowsForm.{RowsForm}
-use Rattle.card_pieces.specs.declared.RowsForm.TheVariants.{Unknown, Known}
 use Rattle.card_pieces.specs.declared.Phase.{Phase}
 use Rattle.card_pieces.specs.declared.Phase.TheVariants.{Reading, Closed, Fault}
 use Rattle.card_pieces.specs.declared.Reader.{Reader}
-use Rattle.card_pieces.specs.declared.Fed.{Fed}
 use Rattle.card_pieces.specs.Runs.{run_from, Outcome, outcome}
+use Rattle.refusal.specs.declared.Refusal.{Refusal}
 
 -- the most bytes of a cut record: one less than the largest record
 abbrev pub tail_most : ℕ
@@ -34,12 +29,12 @@ window_of size = cond (ltb record_most size) record_most size
 -- ---- the state
 
 -- a state that keeps these bytes; zeros fill the tail behind them
-unfoldable pub state_with : List ℕ → ℕ → ℕ → RowsForm → Phase → Reader
+unfoldable pub state_with : List ℕ → ℕ → ℕ → Option CardForm → Phase → Reader
 state_with rest rows low form phase =
     record { tail = filled tail_most rest; kept = length rest; rows = rows; low = low; form = form; phase = phase }
 
 unfoldable pub fresh : Reader
-fresh = record { tail = zeros tail_most; kept = 0; rows = 0; low = 0; form = Unknown; phase = Reading }
+fresh = record { tail = zeros tail_most; kept = 0; rows = 0; low = 0; form = None; phase = Reading }
 
 -- the bytes of the tail that count
 abbrev pub held : Reader → List ℕ
@@ -50,18 +45,18 @@ unfoldable pub within : ℕ → ℕ → Bool
 within kept rows = leb kept tail_most && leb rows rows_most
 
 -- the form of the rows that follow: the one known, else that of the first record
-unfoldable pub form_by : List ℕ → RowsForm → CardForm
-form_by s Unknown = form_in s
-form_by s (Known form) = form
+unfoldable pub form_by : List ℕ → Option CardForm → CardForm
+form_by s None = form_in s
+form_by s (Some form) = form
 
 -- what is known of the form after reading, with so many rows before and after
-unfoldable pub form_after : RowsForm → CardForm → ℕ → ℕ → RowsForm
-form_after known form before after = cond (eqb before after) known (Known form)
+unfoldable pub form_after : Option CardForm → CardForm → ℕ → ℕ → Option CardForm
+form_after known form before after = cond (eqb before after) known (Some form)
 
 -- ---- a piece
 
 -- the state that reading leaves, with n rows before
-unfoldable pub settled : RowsForm → CardForm → ℕ → Outcome → Reader
+unfoldable pub settled : Option CardForm → CardForm → ℕ → Outcome → Reader
 settled known form n o = state_with o.rest o.rows o.low (form_after known form n o.rows) o.phase
 
 -- what reading the bytes s leaves, from a state
@@ -79,11 +74,11 @@ spare_fed b st piece = (reads_on b st (held st ++ piece)).spare
 abbrev pub taken : Book → Reader → Bool
 taken b st = sized b && within st.kept st.rows
 
-unfoldable pub feed_of : Book → Reader → List ℕ → Fed
+unfoldable pub feed_of : Book → Reader → List ℕ → Result Reader Refusal
 feed_of b st piece =
     cond (taken b st)
-    (record { number = done; state = state_fed b st piece })
-    (record { number = number_of UnsoundBook; state = st })
+    (Ok (state_fed b st piece))
+    (Err UnsoundBook)
 
 unfoldable pub feed_spare : Book → Reader → List ℕ → Book
 feed_spare b st piece = cond (taken b st) (spare_fed b st piece) b
@@ -97,15 +92,15 @@ has_ended kept Closed = eqb kept 0
 has_ended kept Fault = false
 
 -- the answer, with room for so many rows: 15, then 17
-abbrev pub finish_as : ℕ → Reader → ReadAnswer
+abbrev pub finish_as : ℕ → Reader → Result ℕ Refusal
 finish_as room st =
-    cond (has_ended st.kept st.phase) (cond (ltb room st.rows) (Refused NoRoomForRows) (Rows st.rows)) (Refused MalformedCard)
+    cond (has_ended st.kept st.phase) (cond (ltb room st.rows) (Err NoRoomForRows) (Ok st.rows)) (Err MalformedCard)
 
 -- the answer from the spare rows b, the state and the book c: 1, then those
-unfoldable pub finish_of : Book → Reader → Book → ReadAnswer
+unfoldable pub finish_of : Book → Reader → Book → Result ℕ Refusal
 finish_of b st c =
     cond (sized b && sized c && eqb (length b.ids) (length c.ids) && within st.kept st.rows) (finish_as (length c.ids) st)
-    (Refused UnsoundBook)
+    (Err UnsoundBook)
 
 -- a book whose first n rows, in use, are the spare ones as they stand; further rows unchanged
 unfoldable pub copied : ℕ → Book → Book → Book
@@ -120,9 +115,9 @@ copied n b c =
     n
 
 -- the book at the end, by the answer: a refusal changes nothing
-abbrev pub finish_by : Book → Book → ReadAnswer → Book
-finish_by b c (Refused x) = c
-finish_by b c (Rows n) = copied n b c
+abbrev pub finish_by : Book → Book → Result ℕ Refusal → Book
+finish_by b c (Err x) = c
+finish_by b c (Ok n) = copied n b c
 
 unfoldable pub finish_book : Book → Reader → Book → Book
 finish_book b st c = finish_by b c (finish_of b st c)

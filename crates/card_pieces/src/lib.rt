@@ -16,28 +16,20 @@ pub use pieces::{begin, feed};
 // The most bytes of a cut record: one less than the largest record of either form.
 pub const TAIL_MOST: usize = RECORD_MOST - 1;
 
-// What is known of the form of a card's rows.
-#[derive(Clone, Copy)]
-pub enum RowsForm {
-    // No row was read yet.
-    Unknown,
-    // The form of the rows read.
-    Known(CardForm),
-}
-
-// Where reading stands.
-#[derive(Clone, Copy)]
+// Where reading stands, and its number.
+#[derive(Clone, Copy, Debug, PartialEq, Eq)]
 pub enum Phase {
     // Records may follow.
-    Reading,
+    Reading = 0,
     // The close was read, and nothing may follow.
-    Closed,
+    Closed = 1,
     // There was a fault.
-    Fault,
+    Fault = 2,
 }
 
-// The reader's state. Any value of it may be handed in: of the tail the first `kept` bytes count.
-#[derive(Clone, Copy)]
+// The reader's state. Any value of it may be handed in: of the tail the first `kept` bytes count. An array and a count: C has the state in parts, in fixed
+// memory.
+#[derive(Clone, Copy, Debug, PartialEq, Eq)]
 pub struct Reader {
     // What is left of a cut record.
     pub tail: [u8; TAIL_MOST],
@@ -46,15 +38,9 @@ pub struct Reader {
     pub rows: usize,
     // The least id that may follow; from 2^32 on none may.
     pub low: u64,
-    pub form: RowsForm,
+    // The form of the rows read, where any was.
+    pub form: Option<CardForm>,
     pub phase: Phase,
-}
-
-// The answer of `feed`: the number, 0 or 1, and the state after the piece; with 1 it is the one that was handed in.
-#[derive(Clone, Copy)]
-pub struct Fed {
-    pub number: u8,
-    pub state: Reader,
 }
 
 // What comes next among the bytes of a card.

@@ -1,14 +1,15 @@
 // Reading the records that begin before a place of some bytes into spare rows.
 ghost use Rattle.std.specs.Prelude.{◌≡◌, true, ◌≤◌, ◌<◌, length, drop};
 ghost use Rattle.key_book.specs.Limits.{rows_most};
-ghost use Rattle.key_book.specs.Book.{book_of, Sized};
+ghost use Rattle.key_book.specs.Book.{Sized};
+ghost use Rattle.key_book.specs.Lent.{room_in, SameRoom};
 ghost use Rattle.book_card.specs.Reader.{wants};
 ghost use Rattle.card_pieces.specs.declared.Phase.TheVariants.{Reading};
 ghost use Rattle.card_pieces.specs.Runs.{next_of, pass_to, stop_by, run, onward, outcome};
 
 use crate::{Next, Pass, Phase};
-use book_card::{CLOSE_SIZE, CardForm, Front};
-use key_book::ROWS_MOST;
+use book_card::{CLOSE_SIZE, CardForm, Front, LentRow};
+use key_book::{LentRoom, ROWS_MOST};
 
 // What comes next at a place, behind so many rows of this form, with this least id.
 fn next_at(s: &[u8], at: usize, form: CardForm, rows: usize, low: u64) -> Next
@@ -18,8 +19,7 @@ fn next_at(s: &[u8], at: usize, form: CardForm, rows: usize, low: u64) -> Next
     if book_card::wants_more(s, at) {
         return Next::Cut;
     }
-    let front = book_card::front_at(s, at, form);
-    match front {
+    match book_card::front_at(s, at, form) {
         Front::Broken => Next::Fault,
         Front::Close(count) => {
             if s.len() - at != CLOSE_SIZE {
@@ -74,13 +74,7 @@ fn stop_by(next: Next, at: usize, size: usize, rows: usize, low: u64) -> Pass
         Next::Cut => pass_to(at, rows, low, Phase::Reading),
         Next::Close => pass_to(size, rows, low, Phase::Closed),
         Next::Fault => pass_to(size, rows, low, Phase::Fault),
-        Next::Row {
-            id: _,
-            mark: _,
-            received: _,
-            sent: _,
-            size: _,
-        } => pass_to(at, rows, low, Phase::Reading),
+        Next::Row { .. } => pass_to(at, rows, low, Phase::Reading),
     }
 }
 
@@ -92,59 +86,48 @@ pub(crate) fn read_rows(
     form: CardForm,
     before: usize,
     least: u64,
-    ids: &mut [u32],
-    lengths: &mut [u8],
-    store: &mut [u8],
-    marks: &mut [u8],
-    received: &mut [u64],
-    sent: &mut [u64],
+    room: &mut LentRoom,
 ) -> Pass
     requires until_in_bounds { until ≤ length s.now }
     requires before_le_rows_most { before ≤ rows_most }
-    requires sized { Sized (book_of ids.old lengths.old store.old marks.old received.old sent.old 0) }
+    requires sized { Sized (room_in room.old 0) }
+    ensures same { SameRoom room.old room.new }
     ensures inside { result.at ≤ length s.now }
     ensures counted { (before ≤ result.rows) × (result.rows ≤ rows_most) }
     ensures stops { result.phase ≡ Reading → result.at < until → wants (drop result.at s.now) ≡ true }
-    ensures sizes { Sized (book_of ids.new lengths.new store.new marks.new received.new sent.new 0) }
-    ensures goes { let b = book_of ids.old lengths.old store.old marks.old received.old sent.old 0 in
-        let c = book_of ids.new lengths.new store.new marks.new received.new sent.new 0 in
-        outcome c result.rows (onward form result s.now) ≡ outcome b before (run form least before s.now) }
+    ensures sizes { Sized (room_in room.new 0) }
+    ensures goes { outcome (room_in room.new 0) result.rows (onward form result s.now) ≡ outcome (room_in room.old 0) before (run form least before s.now) }
 {
     let head = book_card::key_at(form);
     let mut at: usize = 0;
     let mut rows = before;
     let mut low = least;
+    // By place, not over a card's rows: it stops at `until`, and tells a record that is cut from one that is wrong.
     while at < until {
         let next = next_at(s, at, form, rows, low);
         let Next::Row {
             id,
             mark,
-            received: counter,
-            sent: last,
+            received,
+            sent,
             size,
         } = next
         else {
             return stop_by(next, at, s.len(), rows, low);
         };
-        let key = at + head;
-        let end = key + size;
-        book_card::put_row(
+        let key_from = at + head;
+        let end = key_from + size;
+        let row = LentRow {
             id,
             mark,
-            counter,
-            last,
-            &s[key..end],
-            rows,
-            ids,
-            lengths,
-            store,
-            marks,
             received,
             sent,
-        );
+            key: &s[key_from..end],
+        };
+        book_card::put_row(row, rows, room);
         low = id as u64 + 1;
         at = end;
-        rows = rows + 1;
+        rows += 1;
     }
     pass_to(at, rows, low, Phase::Reading)
 }

@@ -20,14 +20,14 @@ returns-then-left-size c = lost_cut _ _ _ c.little-size.ensures.0 (search rules)
 pub returns-in-Broken : goal.returns-in-Broken
 returns-in-Broken c =
     record_faulty _ _ _ c.little-size.ensures.0 (search rules) (search rules) (search rules) _ c.form_in-form.ensures
-    (sym c.in-Broken.is ∙ c.front_at-front.ensures) _ c.little-kind.ensures.0 _ c.fault_at.ensures
+    (sym c.in-Broken.is ∙ c.front_at.ensures) _ c.little-kind.ensures.0 _ c.fault_at.ensures
 
 pub returns-in-Row : goal.returns-in-Row
 returns-in-Row c =
     record_row _ _ _ c.little-size.ensures.0 (search rules) (search rules) (search rules) _ c.form_in-form.ensures
-    _ _ _ _ _ (sym c.in-Row.is ∙ c.front_at-front.ensures)
+    _ _ _ _ _ (sym c.in-Row.is ∙ c.front_at.ensures)
 
 pub returns-in-Close : goal.returns-in-Close
 returns-in-Close c =
     record_close _ _ _ c.little-size.ensures.0 (search rules) (search rules) (search rules) _ c.form_in-form.ensures
-    _ (sym c.in-Close.is ∙ c.front_at-front.ensures)
+    _ (sym c.in-Close.is ∙ c.front_at.ensures)

@@ -5,8 +5,8 @@ use Rattle.key_book.specs.Limits.{rows_most}
 use Rattle.book_card.proofs.Counting.{Counting}
 use Rattle.book_card.proofs.reader.count_rows.Given as goal
 
-abbrev pub invariant-loop-count : goal.invariant-loop-count
-invariant-loop-count l = Counting l.form l.card l.at l.rows l.low
+abbrev pub invariant-loop-row : goal.invariant-loop-row
+invariant-loop-row l = Counting l.form l.card l.left l.rows l.low
 
-abbrev pub decreases-loop-count : goal.decreases-loop-count
-decreases-loop-count l = rows_most - l.rows
+abbrev pub decreases-loop-row : goal.decreases-loop-row
+decreases-loop-row l = rows_most - l.rows

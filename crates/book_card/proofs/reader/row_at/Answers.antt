@@ -1,18 +1,10 @@
 -- `book_card::row_at` meets its contract: each end is one case of `row_by` (proofs/Fronts.antt).
 use native.Mathlib.Omega.{arith}
 use Prim.Native.Nat.{◌+◌, ◌-◌}
-use Rattle.book_card.proofs.Fronts.{row_short, row_long, row_marked, row_there}
+use Rattle.book_card.proofs.Fronts.{row_marked, row_there}
 use mathlib.Core.Path.{ap}
 use mathlib.Core.Bool.{not}
 use Rattle.book_card.proofs.reader.row_at.Goals as goal
-
-pub returns-then-size-before_key : goal.returns-then-size-before_key
-returns-then-size-before_key c =
-    row_short c.args.form c.args.card.now c.args.at c.args.size (omega arith)
-
-pub returns-then-before_key-size : goal.returns-then-before_key-size
-returns-then-before_key-size c =
-    row_long c.args.form c.args.card.now c.args.at c.args.size (omega arith) (omega arith)
 
 pub returns-then-not-mark_fits : goal.returns-then-not-mark_fits
 returns-then-not-mark_fits c =

@@ -2,6 +2,6 @@
 use Rattle.book_card.proofs.Loads.{row_set}
 use Rattle.book_card.proofs.reading.set_row.Goals as goal
 
-pub returns : goal.returns
-returns c =
+pub returns-clause-rows : goal.returns-clause-rows
+returns-clause-rows c =
     row_set _ _ c.requires.within _ c.requires.key_len_bound _ _ _ _ _ _ c.copy.ensures c.clear.ensures

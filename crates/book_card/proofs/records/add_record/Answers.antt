@@ -2,17 +2,18 @@
 use borrow.Author.Rules.{rules}
 use native.Mathlib.Omega.{arith}
 use mathlib.Core.Path.{sym, ◌∙◌}
-use Rattle.book_card.specs.Card.{Row, row_with}
+use Rattle.book_card.specs.Card.{Row}
+use Rattle.book_card.specs.Lent.{row_lent}
 use Rattle.book_card.proofs.Forms.{mark_small}
 use Rattle.book_card.proofs.Puts.{record_long, record_past, record_put_lem}
 use Rattle.book_card.proofs.records.add_record.Goals as goal
 use Rattle.book_card.proofs.records.add_record.Goals.{Start}
 
 abbrev row : Start → Row
-row s = row_with s.args.id s.args.mark s.args.received s.args.sent s.args.key.now
+row s = row_lent s.args.row
 
-pub returns-then-key-gt-SLOT_SIZE : goal.returns-then-key-gt-SLOT_SIZE
-returns-then-key-gt-SLOT_SIZE c = record_long c.args.form (row (goal.at.returns-then-key-gt-SLOT_SIZE c).Start) c.args.at c.args.room.now (search rules)
+pub returns-then-row-gt-SLOT_SIZE : goal.returns-then-row-gt-SLOT_SIZE
+returns-then-row-gt-SLOT_SIZE c = record_long c.args.form (row (goal.at.returns-then-row-gt-SLOT_SIZE c).Start) c.args.at c.args.room.now (search rules)
 
 pub returns-then-room-at : goal.returns-then-room-at
 returns-then-room-at c =

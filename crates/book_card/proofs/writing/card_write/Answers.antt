@@ -1,6 +1,7 @@
 -- `book_card::card_write` meets its contract: each end is one case of `write_of`, with the room as `room_after` says (proofs/Puts.antt).
 use native.Mathlib.Omega.{arith}
-use Rattle.key_book.specs.Book.{Book, book_of}
+use Rattle.key_book.specs.Book.{Book}
+use Rattle.key_book.specs.Lent.{book_in}
 use Rattle.book_card.proofs.Puts.{told_sound, rows_in_lem, size_is, write_unsound, write_no_room, write_done}
 use mathlib.Core.Path.{ap}
 use mathlib.Core.Bool.{not}
@@ -10,13 +11,11 @@ use Rattle.book_card.proofs.writing.card_write.Goals.{Start}
 -- the lent book
 abbrev lent : Start → Book
 lent s =
-    book_of s.args.ids.now s.args.lengths.now s.args.store.now s.args.marks.now s.args.received.now s.args.sent.now
-    s.args.rows
+    book_in s.args.book
 
 pub returns-then-not-is_sound : goal.returns-then-not-is_sound
 returns-then-not-is_sound c =
-    let both = write_unsound (lent (goal.at.returns-then-not-is_sound c).Start) _ _ c.is_sound.ensures (ap not c.if-not-is_sound.true) in
-    record { answer = both.0; after = both.1 }
+    write_unsound (lent (goal.at.returns-then-not-is_sound c).Start) _ _ c.is_sound.ensures (ap not c.if-not-is_sound.true)
 
 pub card_size-size-requires : goal.card_size-size-requires
 card_size-size-requires c =
@@ -27,8 +26,7 @@ card_size-size-requires c =
 pub returns-then-card-size : goal.returns-then-card-size
 returns-then-card-size c =
     let lent = lent (goal.at.returns-then-card-size c).Start in
-    let both = write_no_room lent _ _ c.is_sound.ensures (ap not c.if-not-is_sound.false) _ c.card_size-size.ensures c.if-card-size.true in
-    record { answer = both.0; after = both.1 }
+    write_no_room lent _ _ c.is_sound.ensures (ap not c.if-not-is_sound.false) _ c.card_size-size.ensures c.if-card-size.true
 
 pub put_card-requires : goal.put_card-requires
 put_card-requires c =
@@ -39,5 +37,4 @@ put_card-requires c =
 pub returns : goal.returns
 returns c =
     let lent = lent (goal.at.returns c).Start in
-    let both = write_done lent _ _ c.is_sound.ensures (ap not c.if-not-is_sound.false) _ c.card_size-size.ensures c.if-card-size.false _ c.put_card.ensures in
-    record { answer = both.0; after = both.1 }
+    write_done lent _ _ c.is_sound.ensures (ap not c.if-not-is_sound.false) _ c.card_size-size.ensures c.if-card-size.false _ c.put_card.ensures

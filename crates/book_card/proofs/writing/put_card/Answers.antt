@@ -1,65 +1,40 @@
 use native.Mathlib.Omega.{arith}
-use Rattle.key_book.specs.Book.{Book, book_of}
-use Rattle.key_book.specs.Laws.{Within}
-use Rattle.key_book.proofs.Says.{rows_within}
+use Rattle.key_book.specs.Book.{Book}
+use Rattle.key_book.specs.Lent.{book_in}
 use Rattle.book_card.specs.declared.CardForm.TheVariants.{New}
 use Rattle.book_card.specs.Writing.{rows_of}
 use Rattle.book_card.proofs.Writes.{rows_count}
 use Rattle.book_card.proofs.Puts.{rowing_start, rowing_turn, rowing_end, close_room, Next, row_next}
 use Rattle.book_card.proofs.writing.put_card.Goals as goal
-use Rattle.book_card.proofs.writing.put_card.Goals.{After-key_of-key, Start}
+use Rattle.book_card.proofs.writing.put_card.Goals.{After-key_of, Start}
 
 -- the lent book
 abbrev lent : Start → Book
 lent s =
-    book_of s.args.ids.now s.args.lengths.now s.args.store.now s.args.marks.now s.args.received.now s.args.sent.now s.args.rows
+    book_in s.args.book
 
 -- the same book in a turn
-abbrev book : After-key_of-key → Book
+abbrev book : After-key_of → Book
 book c =
-    book_of c.args.ids.now c.args.lengths.now c.args.store.now c.args.marks.now c.args.received.now c.args.sent.now c.args.rows
+    book_in c.args.book
 
-within : (c : After-key_of-key) → Within (book c) c.loop-row.row
-within c = rows_within (book c) c.requires.sound _ c.loop-row-test.true
-
-next : (c : After-key_of-key) → Next (book c) c.loop-row.row c.loop-row.at c.loop-row.card c.key_of-key.result.now
-next c = row_next (book c) c.requires.sound _ c.loop-row-test.true _ c.key_of-key.ensures.content _ _ _ c.loop-row.invariant
+next : (c : After-key_of) → Next (book c) c.loop-row.row c.loop-row.at c.loop-row.card c.key_of.result.now
+next c = row_next (book c) c.requires.sound _ c.loop-row-test.true _ c.key_of.ensures.content _ _ _ c.loop-row.invariant
 
 pub loop-row-init : goal.loop-row-init
 loop-row-init c = rowing_start New _ _ c.requires.b_in_bounds
 
-pub offset_bounds-ids-row : goal.offset_bounds-ids-row
-offset_bounds-ids-row c = omega (arith, within (goal.at.offset_bounds-ids-row c).After-key_of-key)
-
-pub bounds-ids-row : goal.bounds-ids-row
-bounds-ids-row c = (within (goal.at.bounds-ids-row c).After-key_of-key).in_ids
-
-pub bounds-marks-row : goal.bounds-marks-row
-bounds-marks-row c = (within (goal.at.bounds-marks-row c).After-key_of-key).in_marks
-
-pub offset_bounds-received-row : goal.offset_bounds-received-row
-offset_bounds-received-row c = omega (arith, within (goal.at.offset_bounds-received-row c).After-key_of-key)
-
-pub bounds-received-row : goal.bounds-received-row
-bounds-received-row c = (within (goal.at.bounds-received-row c).After-key_of-key).in_received
-
-pub offset_bounds-sent-row : goal.offset_bounds-sent-row
-offset_bounds-sent-row c = omega (arith, within (goal.at.offset_bounds-sent-row c).After-key_of-key)
-
-pub bounds-sent-row : goal.bounds-sent-row
-bounds-sent-row c = (within (goal.at.bounds-sent-row c).After-key_of-key).in_sent
-
 pub put_record-at-requires : goal.put_record-at-requires
 put_record-at-requires c =
-    let n = next (goal.at.put_record-at-requires c).After-key_of-key in
+    let n = next (goal.at.put_record-at-requires c).After-key_of in
     record { key_len_bound = n.short; key_in_bounds = n.room }
 
 pub overflow_add-at : goal.overflow_add-at
-overflow_add-at c = omega (arith, c.put_record-at.ensures.0, (next (goal.at.overflow_add-at c).After-key_of-key).room)
+overflow_add-at c = omega (arith, c.put_record-at.ensures.0, (next (goal.at.overflow_add-at c).After-key_of).room)
 
 pub loop-row-preserved : goal.loop-row-preserved
 loop-row-preserved c =
-    let turn = (goal.at.loop-row-preserved c).After-key_of-key in
+    let turn = (goal.at.loop-row-preserved c).After-key_of in
     let n = next turn in
     let put = c.put_record-at.ensures in
     rowing_turn New (rows_of (book turn)) _ _ _ _ c.loop-row.invariant n.used _ _ _ n.row put.0 put.1

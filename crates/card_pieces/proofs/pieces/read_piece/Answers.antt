@@ -10,4 +10,4 @@ pub returns : goal.returns
 returns c =
     let both = piece_ends _ _ _ _ _ _ _ c.read_rows-pass.ensures.goes c.read_rows-pass.ensures.inside
     c.read_rows-pass.ensures.stops _ _ c.form_after-formed.ensures _ c.state_with.ensures in
-    record { state = both.0; spare = both.1 }
+    record { same = c.read_rows-pass.ensures.same; state = both.state; spare = both.spare }

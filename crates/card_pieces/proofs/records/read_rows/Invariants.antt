@@ -2,15 +2,15 @@
 -- The measure is how many bytes are left.
 use Prim.Native.Nat.{◌-◌}
 use lib.ListN.{length}
-use Rattle.key_book.specs.Book.{book_of}
+use Rattle.key_book.specs.Lent.{room_in, SameRoom}
 use Rattle.card_pieces.proofs.Passing.{Passing}
 use Rattle.card_pieces.proofs.records.read_rows.Given as goal
 
 abbrev pub invariant-loop-at : goal.invariant-loop-at
 invariant-loop-at l =
     Passing l.form l.s l.before l.least
-    (book_of l.initial.ids l.initial.lengths l.initial.store l.initial.marks l.initial.received l.initial.sent 0)
-    (book_of l.ids l.lengths l.store l.marks l.received l.sent 0) l.at l.rows l.low
+    (room_in l.initial.room 0)
+    (room_in l.room 0) l.at l.rows l.low × SameRoom l.initial.room l.room
 
 abbrev pub decreases-loop-at : goal.decreases-loop-at
 decreases-loop-at l =
