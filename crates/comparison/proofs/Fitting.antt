@@ -6,7 +6,6 @@ use native.Mathlib.Nat.{mul-add, mul-le-mul_left}
 use native.Mathlib.Omega.{arith}
 use mathlib.Core.Bool.{Bool, true, false, cond}
 use mathlib.Core.List.{List, [], ◌∷◌, ◌++◌}
-use mathlib.Core.Option.{Option, none, some}
 use lib.ListN.{length, drop, length-append}
 use lib.Dec.{eqb}
 use Rattle.octets.specs.Bytes.{Bytes, same_bytes}
@@ -27,6 +26,7 @@ use Rattle.comparison.specs.Entry.{text_for}
 use Rattle.comparison.specs.Laws.{LinesFit}
 use Rattle.comparison.proofs.Reading.{passing_parts}
 use Rattle.comparison.proofs.OptionLines.{lines_append}
+use Rattle.std.specs.Prelude.{None, Option, Some}
 
 abbrev size : List Difference → ℕ
 size ds = length (lines_of ds)
@@ -83,14 +83,14 @@ one d n h = rw (length-append (line_of d) []) (omega arith)
 said_most : (side : Side) (code occurrence : ℕ) (body : List ℕ) (other : Option (List ℕ)) → code < 1000 → occurrence < 1000
     → size (said_of side code occurrence body other) ≤ each side * 2
 unfolding said_of lines_of
-said_most First c n body (some other) h k = by (same_bytes body other)
+said_most First c n body (Some other) h k = by (same_bytes body other)
   where
     by : (t : Bool) → size (cond t [] (altered c n ∷ [])) ≤ 16
     by true = omega arith
     by false = one (altered c n) 16 (line_most_lem _ c n h k)
-said_most First c n body none h k = one (missing c n) 16 (line_most_lem _ c n h k)
-said_most Second c n body (some other) h k = omega arith
-said_most Second c n body none h k = one (added c n) 14 (line_most_lem _ c n h k)
+said_most First c n body None h k = one (missing c n) 16 (line_most_lem _ c n h k)
+said_most Second c n body (Some other) h k = omega arith
+said_most Second c n body None h k = one (added c n) 14 (line_most_lem _ c n h k)
 
 count_most : (c : ℕ) (ts : List Token) → 2 * count c ts ≤ length (encode ts)
 count_most c [] = omega arith

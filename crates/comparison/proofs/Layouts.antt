@@ -14,36 +14,38 @@ use Rattle.verdict_line.specs.Line.{PutAt}
 use Rattle.verdict_line.proofs.Places.{put_next, put_one}
 use Rattle.dhcp_message.specs.Options.{Token, pad, opt}
 use Rattle.dhcp_message.specs.Message.{Passes27}
-use Rattle.dhcp_message.specs.Standing.{here_at}
+use Rattle.dhcp_message.specs.Standing.{here_at, GivesHere}
+use Rattle.dhcp_message.specs.declared.Here.{Here}
+use Rattle.dhcp_message.specs.declared.Options.{Options}
 use Rattle.dhcp_message.specs.declared.Here.TheVariants.{Broken, End, Pad, Opt}
 use Rattle.dhcp_message.proofs.Decoding.{Codes, encode_decode}
 use Rattle.dhcp_message.proofs.Passing.{codes}
-use Rattle.dhcp_message.proofs.Turns.{opt_fits}
+use Rattle.dhcp_message.proofs.Turns.{none_stands, next, option_fits}
 use Rattle.comparison.specs.Difference.{Parts, parts_of, layout, codes_of, same_layout, layout_differing, layout_line, lines_of}
 use Rattle.comparison.specs.Walk.{layout_bytes}
 use Rattle.comparison.proofs.Reading.{passing_parts}
 use Rattle.comparison.proofs.OptionLines.{no_lines, one_line, put_nothing}
-use Rattle.comparison.proofs.Walking.{At, Onward, from_options, not_broken, at_end_lem, at_pad, at_option}
+use Rattle.comparison.proofs.Walking.{At, Onward, from_options, not_broken, at_end, at_pad, at_option}
 
 -- ---- the pass
 
 -- the codes before an offset stand in the room, and with those behind it and the bytes after End they are the layout
-pub record Laying (m old out : List ℕ) (at from : ℕ) : Type 0 where
+pub record Laying (m old out : List ℕ) (at : ℕ) (s : Options) : Type 0 where
   pub tokens : List Token
   pub rest : List ℕ
-  pub here : At m from tokens rest
+  pub here : At m s tokens rest
   pub made : List ℕ
   pub put : PutAt old 0 made out at
   pub whole : made ++ (codes_of tokens ++ rest) ≡ layout_bytes (parts_of m)
   pub long : length out ≡ length old
-  pub fits : at + (length m - from) < length old
+  pub fits : at + (length m - s.at) < length old
 
-pub laying_start : (m old : List ℕ) → Passes27 m → length m ≤ length old → Laying m old old 0 240
+pub laying_start : {m old : List ℕ} → Passes27 m → length m ≤ length old → (s : Options) → s.message.now ≡ m → s.at ≡ 240 → Laying m old old 0 s
 unfolding layout_bytes
-laying_start m old h room = record {
+laying_start {m} {old} h room s i e = record {
   tokens = (parts_of m).tokens;
   rest = (parts_of m).rest;
-  here = from_options m h;
+  here = from_options h s i e;
   made = [];
   put = put_nothing old 0;
   whole = refl;
@@ -51,59 +53,65 @@ laying_start m old h room = record {
   fits = omega (arith, (passing_parts m h).long);
 }
 
-module _ (m old out : List ℕ) (at from : ℕ) (l : Laying m old out at from) where
+module _ {m old out : List ℕ} {at : ℕ} (s : Options) (l : Laying m old out at s) where
   -- what `layout_of` promises
   abbrev Laid : List ℕ → ℕ → Type 0
   Laid new r = PutAt old 0 (layout_bytes (parts_of m)) new r × (r ≤ length old)
 
-  pub lay_broken : {r : ℕ} → Broken ≡ here_at m from → Laid out r
-  lay_broken e = absurd (not_broken m from l.tokens l.rest l.here e)
+  pub lay_none : {r : ℕ} → Broken ≡ here_at s.message.now s.at → Laid out r
+  lay_none e = absurd (not_broken s l.here (none_stands s l.here.same e))
 
-  -- End and the bytes after it are copied
-  pub lay_end : {new : List ℕ} → End ≡ here_at m from → new ≡ written at (take (length m - from) (drop from m)) out
-      → Laid new (at + (length m - from))
-  lay_end {new} e f =
-      let t = (at_end_lem m from l.tokens l.rest l.here e).0 in
-      let d : drop from m ≡ 255 ∷ l.rest = sym (rw t at (encode_decode (drop from m) l.tokens l.rest l.here.reads).0) in
-      let w : l.made ++ drop from m ≡ layout_bytes (parts_of m) =
-      ap (λ (x : List ℕ). l.made ++ x) d ∙ ap (λ (us : List Token). l.made ++ (codes_of us ++ l.rest)) (sym t) ∙ l.whole in
-      let n = length-drop from m in
-      let g = l.put.place in
-      let k = l.fits in
-      let p : PutAt out at (drop from m) new (at + (length m - from)) = record {
-        place = omega arith;
-        content = f ∙ ap (λ (x : List ℕ). written at x out) (take_all (length m - from) (drop from m) (omega arith));
-      } in
-      (rw w at (put_next (omega arith) l.put p), omega arith)
+  module _ (t : Options) (from : ℕ) (h : Here) (g : GivesHere s from h t) where
+    -- End and the bytes after it are copied
+    pub lay_end : {new : List ℕ} → h ≡ End → new ≡ written at (take (length m - from) (drop from m)) out → Laid new (at + (length m - from))
+    lay_end {new} e f =
+        let u = at_end s l.here t from h g e in
+        let reads = rw (← g.place) at l.here.reads in
+        let d : drop from m ≡ 255 ∷ l.rest = sym (rw u at (encode_decode (drop from m) l.tokens l.rest reads).0) in
+        let w : l.made ++ drop from m ≡ layout_bytes (parts_of m) =
+        ap (λ (x : List ℕ). l.made ++ x) d ∙ ap (λ (us : List Token). l.made ++ (codes_of us ++ l.rest)) (sym u) ∙ l.whole in
+        let n = length-drop from m in
+        let p = l.put.place in
+        let k = l.fits in
+        let i = g.place in
+        let q : PutAt out at (drop from m) new (at + (length m - from)) = record {
+          place = omega arith;
+          content = f ∙ ap (λ (x : List ℕ). written at x out) (take_all (length m - from) (drop from m) (omega arith));
+        } in
+        (rw w at (put_next (omega arith) l.put q), omega arith)
 
-  -- one code more
-  laid : (t : Token) (v next : ℕ) → ((us : List Token) → codes_of (t ∷ us) ≡ v ∷ codes_of us) → from < next → Onward m from t next l.tokens l.rest
-      → Laying m old (set out at v) (at + 1) next
-  laid t v next more far o =
-      let g = l.put.place in
-      let k = l.fits in
-      let h = l.long in
-      let n = o.behind.within in
-      record {
-        tokens = o.left;
-        rest = l.rest;
-        here = o.behind;
-        made = l.made ++ (v ∷ []);
-        put = put_next (omega arith) l.put (put_one (omega arith));
-        whole =
-            append_assoc l.made (v ∷ []) (codes_of o.left ++ l.rest)
-            ∙ ap (λ (x : List ℕ). l.made ++ (x ++ l.rest)) (sym (more o.left))
-            ∙ ap (λ (us : List Token). l.made ++ (codes_of us ++ l.rest)) (sym o.first) ∙ l.whole;
-        long = length-set out at v ∙ l.long;
-        fits = omega arith;
-      }
+    -- one code more
+    laid : (v : Token) (c : ℕ) → ((us : List Token) → codes_of (v ∷ us) ≡ c ∷ codes_of us) → s.at < t.at → Onward m v t l.tokens l.rest
+        → Laying m old (set out at c) (at + 1) t
+    laid v c more far o =
+        let g = l.put.place in
+        let k = l.fits in
+        let h = l.long in
+        let n = o.behind.within in
+        record {
+          tokens = o.left;
+          rest = l.rest;
+          here = o.behind;
+          made = l.made ++ (c ∷ []);
+          put = put_next (omega arith) l.put (put_one (omega arith));
+          whole =
+              append_assoc l.made (c ∷ []) (codes_of o.left ++ l.rest)
+              ∙ ap (λ (x : List ℕ). l.made ++ (x ++ l.rest)) (sym (more o.left))
+              ∙ ap (λ (us : List Token). l.made ++ (codes_of us ++ l.rest)) (sym o.first) ∙ l.whole;
+          long = length-set out at c ∙ l.long;
+          fits = omega arith;
+        }
 
-  pub lay_pad : Pad ≡ here_at m from → Laying m old (set out at 0) (at + 1) (from + 1)
-  lay_pad e = laid pad 0 (from + 1) (λ us. refl) (omega arith) (at_pad m from l.tokens l.rest l.here e)
+    pub lay_pad : h ≡ Pad → Laying m old (set out at 0) (at + 1) t
+    lay_pad e =
+        let k : t.at ≡ s.at + 1 = rw e at (next s l.here.same t from h g) in
+        laid pad 0 (λ us. refl) (omega arith) (at_pad s l.here t from h g e)
 
-  pub lay_option : (c n : ℕ) → Opt c n ≡ here_at m from → Laying m old (set out at c) (at + 1) (from + n)
-  lay_option c n e =
-      laid (opt c _) c (from + n) (λ us. refl) (omega (arith, opt_fits m from c n e)) (at_option m from l.tokens l.rest l.here c n e)
+    pub lay_option : {c n : ℕ} → h ≡ Opt c n → Laying m old (set out at c) (at + 1) t
+    lay_option {c} {n} e =
+        let k : t.at ≡ s.at + n = rw e at (next s l.here.same t from h g) in
+        let f = option_fits s l.here.same t from h g e in
+        laid (opt c _) c (λ us. refl) (omega arith) (at_option s l.here t from h g e)
 
 -- ---- layouts are the same where their bytes are: no code before End's is End's
 

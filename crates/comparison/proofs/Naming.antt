@@ -6,7 +6,6 @@ use native.Mathlib.Nat.{zero-add}
 use native.Mathlib.Omega.{arith}
 use mathlib.Core.Bool.{Bool, true, false, cond, ◌&&◌, and-false}
 use mathlib.Core.List.{List, [], ◌∷◌, ◌++◌}
-use mathlib.Core.Option.{Option, none, some}
 use Rattle.octets.specs.Bytes.{same_bytes}
 use Rattle.octets.proofs.Comparing.{same_differ, differ_same}
 use Rattle.dhcp_message.specs.Options.{Token, pad, opt}
@@ -20,6 +19,7 @@ use Rattle.comparison.specs.Difference.{fields_differing, body_at, said_of, opti
 use Rattle.comparison.specs.Laws.{Among, Occurs, Alters, Lacks, NamesWhatDiffers}
 use Rattle.comparison.proofs.Members.{among_here, among_left, among_right, among_none, among_one, among_append}
 use Rattle.comparison.proofs.Occurring.{occurs_body, body_occurs, none_not_there, not_there_none}
+use Rattle.std.specs.Prelude.{None, Option, Some}
 
 -- what a difference says of two messages
 abbrev pub Says : Parts → Parts → Difference → Type 0
@@ -127,9 +127,9 @@ module _ (a b : Parts) where
     where
       by : (o : Option (List ℕ)) → body_at s.code s.passed b.tokens ≡ o → Among d (said_of First s.code (suc s.passed) s.body o)
           → Says a b d
-      by none e h =
+      by None e h =
           subst (Says a b) (sym (among_one h)) (record { body = s.body; there = there s; not_there = none_not_there s.code b.tokens refl e })
-      by (some x) e h =
+      by (Some x) e h =
           let u = said_unlike s.body x h in
           subst (Says a b) (sym u.0)
           (record { body = s.body; other = x; in_first = there s; in_second = body_occurs s.code b.tokens refl e; unlike = u.1 })
@@ -140,9 +140,9 @@ module _ (a b : Parts) where
     where
       by : (o : Option (List ℕ)) → body_at s.code s.passed a.tokens ≡ o → Among d (said_of Second s.code (suc s.passed) s.body o)
           → Says a b d
-      by none e h =
+      by None e h =
           subst (Says a b) (sym (among_one h)) (record { body = s.body; there = there s; not_there = none_not_there s.code a.tokens refl e })
-      by (some x) e h = absurd (among_none h)
+      by (Some x) e h = absurd (among_none h)
 
   -- ---- the layout
 

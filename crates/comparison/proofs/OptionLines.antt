@@ -1,24 +1,21 @@
 -- Lines put one behind another: the laws of `lines_of`, the line of an option, and what is said of one.
-use mathlib.Core.Path.{◌≡◌, refl, sym, ap, ap₂, ◌∙◌}
-use Prim.Native.Nat.{ℕ, suc, ◌+◌, ◌-◌, ◌≤◌}
+use mathlib.Core.Path.{◌≡◌, refl, sym, ap, ◌∙◌}
+use Prim.Native.Nat.{ℕ, suc, ◌+◌, ◌≤◌}
 use native.Mathlib.Numerals.{add-one}
 use native.Mathlib.Omega.{arith}
 use mathlib.Core.Bool.{true, false}
 use mathlib.Core.List.{List, [], ◌∷◌, ◌++◌, append_assoc, append-nil}
-use mathlib.Core.Option.{Option, none, some}
-use lib.ListN.{length, take, drop, length-append}
+use lib.ListN.{length, length-append}
 use Rattle.octets.specs.Bytes.{same_bytes}
 use Rattle.octets.proofs.Written.{length_written, written_none}
 use Rattle.verdict_line.specs.Decimal.{decimal}
 use Rattle.verdict_line.specs.Line.{PutAt, space, newline}
 use Rattle.verdict_line.proofs.Places.{put_next, Added, added_put}
-use Rattle.comparison.specs.declared.options.Found.{Found}
-use Rattle.comparison.specs.declared.options.Found.TheVariants.{Absent, Stands}
 use Rattle.comparison.specs.declared.Side.{Side}
 use Rattle.comparison.specs.declared.Side.TheVariants.{First, Second}
-use Rattle.comparison.specs.Difference.{parts_of, Difference, altered, missing, added, body_at, said_of}
+use Rattle.comparison.specs.Difference.{Difference, said_of}
 use Rattle.comparison.specs.Difference.{altered_word, missing_word, added_word, option_line, line_of, lines_of}
-use Rattle.comparison.specs.Walk.{FoundAs}
+use Rattle.std.specs.Prelude.{None, Option, Some}
 
 -- ---- lines
 
@@ -64,41 +61,29 @@ module _ (out word : List ℕ) (at code occurrence : ℕ) (room : at + length (o
       let t₄ = put_more (decimal occurrence) (simp length-append (omega arith)) t₃ a₄ in
       put_more newline (simp length-append (omega arith)) t₄ a₅
 
--- ---- what is said of an option, by what was found of it in the other message
+-- ---- what is said of an option, by the body that was found of it in the other message
 
-module _ (m : List ℕ) (code before : ℕ) (body : List ℕ) (side : Side) (found : Found) (is : FoundAs m code before found) where
-  abbrev pub said : List ℕ
-  said = lines_of (said_of side code (suc before) body (body_at code before (parts_of m).tokens))
+module _ (code before : ℕ) (body : List ℕ) where
+  abbrev pub said : Side → Option (List ℕ) → List ℕ
+  said side found = lines_of (said_of side code (suc before) body found)
 
-  -- by the side and the body found
-  said_by_lem : (s : Side) (o : Option (List ℕ)) (ds : List Difference) → side ≡ s → body_at code before (parts_of m).tokens ≡ o
-      → said_of s code (suc before) body o ≡ ds → said ≡ lines_of ds
-  said_by_lem s o ds es eo e = ap₂ (λ (t : Side) (x : Option (List ℕ)). lines_of (said_of t code (suc before) body x)) es eo ∙ ap lines_of e
-
-  absent : found ≡ Absent → body_at code before (parts_of m).tokens ≡ none
-  absent e = rw e at is
-
-  pub said_missing : side ≡ First → found ≡ Absent → said ≡ option_line missing_word code (before + 1)
+  pub said_missing : said First None ≡ option_line missing_word code (before + 1)
   unfolding said_of
-  said_missing es ef = rw (add-one before) (said_by_lem First none (missing code (suc before) ∷ []) es (absent ef) refl ∙ one_line _)
+  said_missing = rw (add-one before) (one_line _)
 
-  pub said_added : side ≡ Second → found ≡ Absent → said ≡ option_line added_word code (before + 1)
+  pub said_added : said Second None ≡ option_line added_word code (before + 1)
   unfolding said_of
-  said_added es ef = rw (add-one before) (said_by_lem Second none (added code (suc before) ∷ []) es (absent ef) refl ∙ one_line _)
+  said_added = rw (add-one before) (one_line _)
 
-  module _ (from size : ℕ) (ef : found ≡ Stands from size) where
-    pub there : (body_at code before (parts_of m).tokens ≡ some (take (size - 2) (drop (from + 2) m))) × (2 ≤ size) × (from + size ≤ length m)
-    there = rw ef at is
-
-    pub said_there : side ≡ Second → said ≡ []
+  module _ (other : List ℕ) where
+    pub said_there : said Second (Some other) ≡ []
     unfolding said_of
-    said_there es = said_by_lem Second _ [] es there.0 refl ∙ no_lines
+    said_there = no_lines
 
-    pub said_same : side ≡ First → same_bytes body (take (size - 2) (drop (from + 2) m)) ≡ true → said ≡ []
+    pub said_same : same_bytes body other ≡ true → said First (Some other) ≡ []
     unfolding said_of
-    said_same es e = said_by_lem First _ [] es there.0 (rw e) ∙ no_lines
+    said_same e = rw e no_lines
 
-    pub said_altered : side ≡ First → same_bytes body (take (size - 2) (drop (from + 2) m)) ≡ false → said ≡ option_line altered_word code (before + 1)
+    pub said_altered : same_bytes body other ≡ false → said First (Some other) ≡ option_line altered_word code (before + 1)
     unfolding said_of
-    said_altered es e =
-        rw (add-one before) (said_by_lem First _ (altered code (suc before) ∷ []) es there.0 (rw e) ∙ one_line _)
+    said_altered e = rw (add-one before, e) (one_line _)

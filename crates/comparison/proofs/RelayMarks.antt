@@ -7,8 +7,7 @@ use native.Mathlib.Omega.{arith}
 use native.Mathlib.Decide.{ℕ_discrete}
 use mathlib.Core.Bool.{Bool, true, false, cond}
 use mathlib.Core.List.{List, [], ◌∷◌, ◌++◌, append_assoc}
-use mathlib.Core.Option.{Option, none, some}
-use lib.ListN.{length, take, get_elem?}
+use lib.ListN.{length, take}
 use lib.Dec.{eqb}
 use borrow.Author.Tests.{ne_eqb, eq-eqb, eqb-true}
 use Rattle.octets.specs.Bytes.{same_bytes, zeros}
@@ -25,6 +24,7 @@ use Rattle.comparison.specs.Fields.{Field, part, fields, op, htype, hlen, xid, s
 use Rattle.comparison.specs.Difference.{Parts, Difference, differs, altered, layout, fields_differing, body_at, said_of}
 use Rattle.comparison.specs.Difference.{options_differing, same_layout, layout_differing, differences_of}
 use Rattle.comparison.specs.Laws.{Among, Alike, OfRelay, of_hops, of_giaddr, of_altered, of_missing, of_added, of_layout}
+use Rattle.std.specs.Prelude.{None, Option, Some, slice_get}
 
 -- ---- something holds of all in a list
 
@@ -95,23 +95,23 @@ module _ (header other : List ℕ) where
 -- what is said of an option 82 is a relay's
 said_82 : (side : Side) (n : ℕ) (body : List ℕ) (other : Option (List ℕ)) → Ours (said_of side 82 n body other)
 unfolding said_of
-said_82 First n body (some other) = by (same_bytes body other)
+said_82 First n body (Some other) = by (same_bytes body other)
   where
     by : (t : Bool) → Ours (cond t [] (altered 82 n ∷ []))
     by true = none_left
     by false = of_altered n and none_left
-said_82 First n body none = of_missing n and none_left
-said_82 Second n body (some other) = none_left
-said_82 Second n body none = of_added n and none_left
+said_82 First n body None = of_missing n and none_left
+said_82 Second n body (Some other) = none_left
+said_82 Second n body None = of_added n and none_left
 
 -- of an option that has its like nothing is said
-said_like : (side : Side) (c n : ℕ) (body : List ℕ) → said_of side c n body (some body) ≡ []
+said_like : (side : Side) (c n : ℕ) (body : List ℕ) → said_of side c n body (Some body) ≡ []
 unfolding said_of
 said_like First c n body = rw (equal_same body body refl)
 said_like Second c n body = refl
 
 -- the body behind so many others
-element_at : (p : List (List ℕ)) (b : List ℕ) (q : List (List ℕ)) → get_elem? (p ++ (b ∷ q)) (length p) ≡ some b
+element_at : (p : List (List ℕ)) (b : List ℕ) (q : List (List ℕ)) → slice_get (p ++ (b ∷ q)) (length p) ≡ Some b
 element_at [] b q = refl
 element_at (a ∷ p) b q = element_at p b q
 
@@ -147,8 +147,8 @@ module _ (side : Side) (other : List Token) where
         | yes e ↦ rw e (said_82 side _ body _)
         | no n ↦
             let bodies : bodies_of c other ≡ bodies_of c before ++ (body ∷ bodies_of c ts) = likes c n ∙ rw (eq-eqb c c refl) in
-            let there : get_elem? (bodies_of c other) (count c before) ≡ some body =
-            ap₂ (λ (l : List (List ℕ)) (k : ℕ). get_elem? l k) bodies (bodies_counted c before) ∙ element_at (bodies_of c before) body (bodies_of c ts) in
+            let there : slice_get (bodies_of c other) (count c before) ≡ Some body =
+            ap₂ (λ (l : List (List ℕ)) (k : ℕ). slice_get l k) bodies (bodies_counted c before) ∙ element_at (bodies_of c before) body (bodies_of c ts) in
             rw (there, said_like side c _ body) none_left
       ]
 

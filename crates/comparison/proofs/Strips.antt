@@ -13,12 +13,12 @@ use Rattle.dhcp_message.specs.Options.{encode}
 use Rattle.dhcp_message.specs.Image.{without, head_zero}
 use Rattle.dhcp_message.specs.Shape.{shape_of}
 use Rattle.dhcp_message.specs.declared.Places.{Places}
-use Rattle.dhcp_message.specs.declared.Shape.TheVariants.{Passed}
 use Rattle.dhcp_message.proofs.Passing.{Passing, header_size_lem}
 use Rattle.dhcp_message.proofs.Headers.{head_left, head_length}
 use Rattle.dhcp_message.proofs.Images.{cuts}
 use Rattle.comparison.specs.Difference.{Parts, parts_of, stripped, relay_only}
 use Rattle.comparison.proofs.Reading.{header_parts, passing_parts, shape_passes, shape_places}
+use Rattle.std.specs.Prelude.{Ok}
 
 -- where option 82 stands in a message that passes 2 to 7, and what is left without it
 pub record Cutting (m : List ℕ) (p : Places) : Type 0 where
@@ -28,7 +28,7 @@ pub record Cutting (m : List ℕ) (p : Places) : Type 0 where
   pub last : length (drop (p.cut + p.gap) m) ≡ length m - (p.cut + p.gap)
   pub left : take p.cut m ++ drop (p.cut + p.gap) m ≡ take 240 m ++ (encode (without 82 (parts_of m).tokens) ++ (255 ∷ (parts_of m).rest))
 
-module _ (m : List ℕ) {p : Places} (e : shape_of m ≡ Passed p) where
+module _ (m : List ℕ) {p : Places} (e : shape_of m ≡ Ok p) where
   passes : Passing m (parts_of m).tokens (parts_of m).rest
   passes = passing_parts m (shape_passes m e)
 

@@ -1,8 +1,6 @@
 -- What differs between two messages, and the lines that say it: docs/RULES.md, 'Two messages side by side'. A message is its header, its option tokens and
 -- the bytes after End (dhcp_message, specs/Options.antt). The sentences of the rules are proved of these definitions in specs/Laws.antt.
-use Rattle.std.specs.Prelude.{ℕ, suc, Bool, true, false, cond, ◌&&◌, List, [], ◌∷◌, ◌++◌, take, drop}
-use Rattle.std.proofs.Math.Option.{Option, none, some}
-use Rattle.std.proofs.Math.ListN.{get_elem?}
+use Rattle.std.specs.Prelude.{ℕ, suc, Bool, true, false, cond, ◌&&◌, List, [], ◌∷◌, ◌++◌, take, drop, None, Option, Some, slice_get}
 use Rattle.octets.specs.Bytes.{same_bytes}
 use Rattle.verdict_line.specs.Decimal.{decimal}
 use Rattle.verdict_line.specs.Line.{space, newline}
@@ -48,14 +46,14 @@ fields_differing (f ∷ fs) header other =
 
 -- the body of the option of a code before which so many of that code stand; none where there is no such option
 unfoldable pub body_at : (code before : ℕ) → List Token → Option (List ℕ)
-body_at code before tokens = get_elem? (bodies_of code tokens) before
+body_at code before tokens = slice_get (bodies_of code tokens) before
 
 -- what is said of an option of one side, by the body that the other side's option of the same code and occurrence has, if there is one
 unfoldable pub said_of : Side → (code occurrence : ℕ) → List ℕ → Option (List ℕ) → List Difference
-said_of First code occurrence body (some other) = cond (same_bytes body other) [] (altered code occurrence ∷ [])
-said_of First code occurrence body none = missing code occurrence ∷ []
-said_of Second code occurrence body (some other) = []
-said_of Second code occurrence body none = added code occurrence ∷ []
+said_of First code occurrence body (Some other) = cond (same_bytes body other) [] (altered code occurrence ∷ [])
+said_of First code occurrence body None = missing code occurrence ∷ []
+said_of Second code occurrence body (Some other) = []
+said_of Second code occurrence body None = added code occurrence ∷ []
 
 -- (b) in the order of the first message's options, by the second's, and (c) in the order of the second's, by the first's; `before` are the tokens that were
 -- passed already

@@ -1,10 +1,10 @@
 -- Pairs of messages worked out, with their lines as ASCII and the numbers that `compare` gives: every name, offset, size, word and order shows, written as
 -- numbers on purpose. The proof is proofs/Computed.antt.
-use Rattle.std.specs.Prelude.{ℕ, ◌≡◌, List, [], ◌∷◌, ◌++◌}
+use Rattle.std.specs.Prelude.{ℕ, ◌≡◌, List, [], ◌∷◌, ◌++◌, Err, Ok}
+use Rattle.refusal.specs.Number.{result_number}
 use Rattle.octets.specs.Bytes.{zeros, up_from}
 use Rattle.refusal.specs.declared.Refusal.TheVariants.{MessageSize, RelayInformation, NoRoomForReport}
-use Rattle.comparison.specs.declared.Compared.TheVariants.{Refused, Size}
-use Rattle.comparison.specs.Entry.{comparison_most, text_for, compare_of, room_compared, compared_number}
+use Rattle.comparison.specs.Entry.{comparison_most, text_for, compare_of, room_compared}
 
 -- a message by its first 236 bytes and its options
 abbrev pub message_with : (header options : List ℕ) → List ℕ
@@ -52,10 +52,10 @@ pub record ComparisonExample : Type 0 where
       ∷ 108 ∷ 97 ∷ 121 ∷ 111 ∷ 117 ∷ 116 ∷ 10
       ∷ 114 ∷ 101 ∷ 108 ∷ 97 ∷ 121 ∷ 32 ∷ 111 ∷ 110 ∷ 108 ∷ 121 ∷ 10 ∷ []
   -- 41 bytes, which fit a room of 41 and of no less; the byte behind them stays, and a room too short is not written
-  pub relay_size : compare_of direct via_relay 41 ≡ Size 41
-  pub relay_number : compared_number (compare_of direct via_relay 41) ≡ 0
-  pub no_room_lem : compare_of direct via_relay 40 ≡ Refused NoRoomForReport
-  pub no_room_number : compared_number (compare_of direct via_relay 40) ≡ 22
+  pub relay_size : compare_of direct via_relay 41 ≡ Ok 41
+  pub relay_number : result_number (compare_of direct via_relay 41) ≡ 0
+  pub no_room_lem : compare_of direct via_relay 40 ≡ Err NoRoomForReport
+  pub no_room_number : result_number (compare_of direct via_relay 40) ≡ 22
   pub room_written : room_compared direct via_relay (zeros 41 ++ (9 ∷ [])) ≡ text_for direct via_relay ++ (9 ∷ [])
   pub room_kept : room_compared direct via_relay (up_from 1 40) ≡ up_from 1 40
   -- `altered 53 1`, `missing 12 2`, `layout`, `covered bytes differ`: a pad more in front, and a byte after End
@@ -116,12 +116,12 @@ pub record ComparisonExample : Type 0 where
       ≡ 108 ∷ 97 ∷ 121 ∷ 111 ∷ 117 ∷ 116 ∷ 10
       ∷ 99 ∷ 111 ∷ 118 ∷ 101 ∷ 114 ∷ 101 ∷ 100 ∷ 32 ∷ 98 ∷ 121 ∷ 116 ∷ 101 ∷ 115 ∷ 32 ∷ 100 ∷ 105 ∷ 102 ∷ 102 ∷ 101 ∷ 114 ∷ 10 ∷ []
   -- of two that are refused the first gives the number, and the number comes before the room
-  pub first_refused : compare_of twice_relayed too_short 0 ≡ Refused RelayInformation
-  pub exchanged_refused : compare_of too_short twice_relayed 0 ≡ Refused MessageSize
-  pub first_number : compared_number (compare_of twice_relayed too_short 0) ≡ 7
-  pub exchanged_number : compared_number (compare_of too_short twice_relayed 0) ≡ 2
+  pub first_refused : compare_of twice_relayed too_short 0 ≡ Err RelayInformation
+  pub exchanged_refused : compare_of too_short twice_relayed 0 ≡ Err MessageSize
+  pub first_number : result_number (compare_of twice_relayed too_short 0) ≡ 7
+  pub exchanged_number : result_number (compare_of too_short twice_relayed 0) ≡ 2
   -- where the first passes, the second's
-  pub second_number : compared_number (compare_of direct twice_relayed 0) ≡ 7
+  pub second_number : result_number (compare_of direct twice_relayed 0) ≡ 7
   -- `missing 12 1`, `altered 53 1`, `added 60 1`, `added 50 1`, `layout`, `covered bytes differ`: each side in the order of its own options, the first's before
   -- the second's
   pub both_sides : text_for (bare (12 ∷ 0 ∷ 53 ∷ 1 ∷ 5 ∷ 90 ∷ 0 ∷ 255 ∷ [])) (bare (60 ∷ 0 ∷ 53 ∷ 1 ∷ 2 ∷ 50 ∷ 0 ∷ 90 ∷ 0 ∷ 255 ∷ []))

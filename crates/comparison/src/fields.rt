@@ -5,45 +5,42 @@ ghost use Rattle.dhcp_message.specs.Layout.{header_size};
 ghost use Rattle.comparison.specs.Fields.{fields};
 ghost use Rattle.comparison.specs.Difference.{fields_differing, lines_of};
 
-// How many fields there are.
-const FIELDS: usize = 14;
+use crate::Message;
+use dhcp_message::{GIADDR_AT, GIADDR_SIZE, HOPS_AT, HOPS_SIZE};
 
-// Where each begins, and behind the last one where it ends.
-const FIELD_AT: [usize; FIELDS + 1] = [0, 1, 2, 3, 4, 8, 10, 12, 16, 20, 24, 28, 44, 108, 236];
+// Each field: its first byte, how many it has, and its line.
+const FIELDS: [(usize, usize, &[u8]); 14] = [
+    (0, 1, b"op\n"),
+    (1, 1, b"htype\n"),
+    (2, 1, b"hlen\n"),
+    (HOPS_AT, HOPS_SIZE, b"hops\n"),
+    (4, 4, b"xid\n"),
+    (8, 2, b"secs\n"),
+    (10, 2, b"flags\n"),
+    (12, 4, b"ciaddr\n"),
+    (16, 4, b"yiaddr\n"),
+    (20, 4, b"siaddr\n"),
+    (GIADDR_AT, GIADDR_SIZE, b"giaddr\n"),
+    (28, 16, b"chaddr\n"),
+    (44, 64, b"sname\n"),
+    (108, 128, b"file\n"),
+];
 
-// Their lines, one behind another.
-const LINES: [u8; 80] =
-    *b"op\nhtype\nhlen\nhops\nxid\nsecs\nflags\nciaddr\nyiaddr\nsiaddr\ngiaddr\nchaddr\nsname\nfile\n";
-
-// Where the line of each begins among them, and behind the last one where it ends.
-const LINE_AT: [usize; FIELDS + 1] = [0, 3, 9, 14, 19, 23, 28, 34, 41, 48, 55, 62, 69, 75, 80];
-
-// Puts the line of each field that differs at the room's front, and returns the place after them. The tables are bound first: an index into a constant copies
-// the whole table.
-pub(crate) fn put_fields(out: &mut [u8], first: &[u8], second: &[u8]) -> usize
-    requires header_size_in_bounds { header_size ≤ length first.now }
-    requires header_size_in_bounds_2 { header_size ≤ length second.now }
-    requires second_in_bounds { length (lines_of (fields_differing fields (take header_size first.now) (take header_size second.now))) ≤ length out.old }
+// Puts the line of each field that differs at the room's front, and returns the place after them.
+pub(crate) fn put_fields(out: &mut [u8], first: Message, second: Message) -> usize
+    requires { length (lines_of (fields_differing fields (take header_size first.bytes.now) (take header_size second.bytes.now))) ≤ length out.old }
     ensures { PutAt
         out.old
         0
-        (lines_of (fields_differing fields (take header_size first.now) (take header_size second.now)))
+        (lines_of (fields_differing fields (take header_size first.entry.bytes.now) (take header_size second.entry.bytes.now)))
         out.new
         result }
 {
-    let lines = LINES;
-    let field_at = FIELD_AT;
-    let line_at = LINE_AT;
     let mut at: usize = 0;
-    let mut i: usize = 0;
-    while i < FIELDS {
-        let from = field_at[i];
-        let to = field_at[i + 1];
-        if octets::same(&first[from..to], &second[from..to]) {
-            i += 1;
-        } else {
-            at = verdict_line::add_bytes(out, at, &lines[line_at[i]..line_at[i + 1]]);
-            i += 1;
+    for &(from, size, line) in &FIELDS {
+        let to = from + size;
+        if !octets::same(&first.bytes[from..to], &second.bytes[from..to]) {
+            at = verdict_line::add_bytes(out, at, line);
         }
     }
     at

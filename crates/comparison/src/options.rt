@@ -1,54 +1,35 @@
 // The options, in the order of one message's, by the other's: each is found again by its code and its occurrence.
-ghost use Rattle.std.specs.Prelude.{[], ◌+◌, ◌≤◌, ◌<◌, ◌^◌, suc, length};
+ghost use Rattle.std.specs.Prelude.{◌≡◌, [], ◌+◌, ◌≤◌, ◌<◌, ◌^◌, suc, length};
+ghost use Rattle.std.specs.Option.{option_copied};
 ghost use Rattle.verdict_line.specs.Line.{PutAt};
-ghost use Rattle.dhcp_message.specs.Message.{Passes27};
 ghost use Rattle.comparison.specs.Difference.{parts_of, body_at, said_of, options_differing, option_line, lines_of};
-ghost use Rattle.comparison.specs.Walk.{FoundAs};
 
-use crate::Side;
-use dhcp_message::{HEADER_SIZE, Here, OPTION_HEAD, PAD_SIZE};
+use crate::{Message, Side};
+use dhcp_message::{Here, OPTION_HEAD, Options};
 
-// How many codes a byte can be.
+// How many codes a byte can be. A count for each stands in an array and no map: nothing is allocated.
 const CODES: usize = 256;
 
-// The option of a code and an occurrence in a message: there is none, or it stands at an offset and takes so many bytes.
-#[derive(Clone, Copy)]
-pub(crate) enum Found {
-    Absent,
-    Stands { at: usize, size: usize },
-}
-
-// The option of a code before which so many of that code stand.
-fn find(message: &[u8], code: u8, before: u64) -> Found
-    requires { Passes27 message.now }
-    ensures { FoundAs message.now code before result }
+// The body of the option of a code before which so many of that code stand, if there is one.
+fn find<'a>(message: Message<'a>, code: u8, before: u64) -> Option<&'a [u8]>
+    ensures { option_copied result ≡ body_at code before (parts_of message.entry.bytes.now).tokens }
 {
     let mut left = before;
-    let mut at: usize = HEADER_SIZE;
-    loop {
-        let here = dhcp_message::here_at(message, at);
-        match here {
-            Here::Broken => return Found::Absent,
-            Here::End => return Found::Absent,
-            Here::Pad => {
-                at = at + PAD_SIZE;
-            }
-            Here::Opt { code: c, size } => {
-                if c == code {
-                    if left == 0 {
-                        return Found::Stands { at, size };
-                    }
-                    left = left - 1;
-                    at = at + size;
-                } else {
-                    at = at + size;
+    for (at, here) in Options::new(message.bytes) {
+        if let Here::Opt { code: other, size } = here {
+            if other == code {
+                if left == 0 {
+                    return Some(&message.bytes[at + OPTION_HEAD..at + size]);
                 }
+                left -= 1;
             }
         }
     }
+    None
 }
 
-// Puts the line of a word, a code and an occurrence at a place, and returns the place after it.
+// Puts the line of a word, a code and an occurrence at a place, and returns the place after it. No `Display`, here and for the other lines: its
+// `output` would go by std's `decimal`, where the definitions go by verdict_line's.
 fn put_option_line(out: &mut [u8], at: usize, word: &[u8], code: u8, occurrence: u64) -> usize
     requires { at + length (option_line word.now code occurrence) ≤ length out.old }
     ensures { PutAt out.old at (option_line word.now code occurrence) out.new result }
@@ -60,7 +41,8 @@ fn put_option_line(out: &mut [u8], at: usize, word: &[u8], code: u8, occurrence:
     verdict_line::add_bytes(out, end, b"\n")
 }
 
-// Puts what is said of an option of one side, whose body is given, by what was found of it in the other message.
+// Puts what is said of an option of one side, whose body is given, by the body that was found in the other message. Which line it is goes by the side and by
+// what was found at once, so it is a match and no writer that is handed in.
 fn put_said(
     out: &mut [u8],
     at: usize,
@@ -68,35 +50,22 @@ fn put_said(
     code: u8,
     before: u64,
     body: &[u8],
-    other: &[u8],
-    found: Found,
+    found: Option<&[u8]>,
 ) -> usize
     requires before_bound { before < 2 ^ 63 }
-    requires found_as { FoundAs other.now code before found }
-    requires other_in_bounds { at
-        + length (lines_of (said_of side code (suc before) body.now (body_at code before (parts_of other.now).tokens)))
-        ≤ length out.old }
-    ensures { PutAt
-        out.old
-        at
-        (lines_of (said_of side code (suc before) body.now (body_at code before (parts_of other.now).tokens)))
-        out.new
-        result }
+    requires found_in_bounds { at + length (lines_of (said_of side code (suc before) body.now (option_copied found))) ≤ length out.old }
+    ensures { PutAt out.old at (lines_of (said_of side code (suc before) body.now (option_copied found.entry))) out.new result }
 {
-    match side {
-        Side::First => match found {
-            Found::Absent => put_option_line(out, at, b"missing ", code, before + 1),
-            Found::Stands { at: from, size } => {
-                if octets::same(body, &other[from + OPTION_HEAD..from + size]) {
-                    return at;
-                }
-                put_option_line(out, at, b"altered ", code, before + 1)
+    match (side, found) {
+        (Side::First, None) => put_option_line(out, at, b"missing ", code, before + 1),
+        (Side::Second, None) => put_option_line(out, at, b"added ", code, before + 1),
+        (Side::First, Some(other)) => {
+            if octets::same(body, other) {
+                return at;
             }
-        },
-        Side::Second => match found {
-            Found::Absent => put_option_line(out, at, b"added ", code, before + 1),
-            Found::Stands { at: _, size: _ } => at,
-        },
+            put_option_line(out, at, b"altered ", code, before + 1)
+        }
+        (Side::Second, Some(_)) => at,
     }
 }
 
@@ -105,48 +74,29 @@ pub(crate) fn put_options(
     out: &mut [u8],
     start: usize,
     side: Side,
-    message: &[u8],
-    other: &[u8],
+    message: Message,
+    other: Message,
 ) -> usize
-    requires passes27 { Passes27 message.now }
-    requires passes27_2 { Passes27 other.now }
-    requires other_in_bounds { start
-        + length (lines_of (options_differing side [] (parts_of message.now).tokens (parts_of other.now).tokens))
+    requires { start
+        + length (lines_of (options_differing side [] (parts_of message.bytes.now).tokens (parts_of other.bytes.now).tokens))
         ≤ length out.old }
     ensures { PutAt
         out.old
         start
-        (lines_of (options_differing side [] (parts_of message.now).tokens (parts_of other.now).tokens))
+        (lines_of (options_differing side [] (parts_of message.entry.bytes.now).tokens (parts_of other.entry.bytes.now).tokens))
         out.new
         result }
 {
     let mut counts = [0u64; CODES];
     let mut at = start;
-    let mut from: usize = HEADER_SIZE;
-    loop {
-        let here = dhcp_message::here_at(message, from);
-        match here {
-            Here::Broken => return at,
-            Here::End => return at,
-            Here::Pad => {
-                from = from + PAD_SIZE;
-            }
-            Here::Opt { code, size } => {
-                let before = counts[code as usize];
-                let found = find(other, code, before);
-                at = put_said(
-                    out,
-                    at,
-                    side,
-                    code,
-                    before,
-                    &message[from + OPTION_HEAD..from + size],
-                    other,
-                    found,
-                );
-                counts[code as usize] = before + 1;
-                from = from + size;
-            }
+    for (from, here) in Options::new(message.bytes) {
+        if let Here::Opt { code, size } = here {
+            let before = counts[code as usize];
+            let found = find(other, code, before);
+            let body = &message.bytes[from + OPTION_HEAD..from + size];
+            at = put_said(out, at, side, code, before, body, found);
+            counts[code as usize] = before + 1;
         }
     }
+    at
 }

@@ -28,10 +28,10 @@ pub const NUMBERED_MOST: usize = 84;
 const DIGITS_MOST: usize = 20;
 
 // The character 0; the other digits follow it.
-pub const DIGIT_ZERO: u8 = 48;
+const DIGIT_ZERO: u8 = b'0';
 
 // What a line says.
-#[derive(Clone, Copy)]
+#[derive(Clone, Copy, Debug, PartialEq, Eq)]
 pub enum Line {
     // The message is accepted: its row and its counter.
     Accepted(usize, u64),
@@ -49,7 +49,8 @@ pub enum Line {
     Unknown,
 }
 
-// Copies bytes to a place, and returns the place after them.
+// Copies bytes to a place, and returns the place after them. Here and below the place goes from call to call as a number: a writer that holds room and place
+// would have to say in the clause of each of its methods what it leaves of the lent room.
 fn put(out: &mut [u8], at: usize, bytes: &[u8]) -> usize
     requires { at + length bytes.now ≤ length out.old }
     ensures { PutAt out.old at bytes.now out.new result }
@@ -58,7 +59,8 @@ fn put(out: &mut [u8], at: usize, bytes: &[u8]) -> usize
     at + bytes.len()
 }
 
-// Writes a number's digits at a place, and returns the place after them.
+// Writes a number's digits at a place, and returns the place after them. By hand: the crate `itoa` goes by std's `decimal`,
+// and a law more would have to say that it is that of specs/Decimal; and the must-fail edit digits_reversed is of this text.
 fn put_decimal(out: &mut [u8], at: usize, x: u64) -> usize
     requires { at + length (decimal x) ≤ length out.old }
     ensures { PutAt out.old at (decimal x) out.new result }
@@ -78,16 +80,13 @@ pub fn add_bytes(out: &mut [u8], at: usize, bytes: &[u8]) -> usize
     ensures place { result ≡ place_with at bytes.now (length out.old) }
     ensures content { out.new ≡ out_with at bytes.now out.old }
 {
-    if out.len() < at {
-        return at;
-    }
-    if out.len() - at < bytes.len() {
+    if out.len() < at || out.len() - at < bytes.len() {
         return at;
     }
     put(out, at, bytes)
 }
 
-// The same for a number's digits.
+// The same for a number's digits, made in a room of their own: nothing is allocated.
 pub fn add_decimal(out: &mut [u8], at: usize, x: u64) -> usize
     ensures place { result ≡ place_with at (decimal x) (length out.old) }
     ensures content { out.new ≡ out_with at (decimal x) out.old }
@@ -146,7 +145,7 @@ fn put_numbered(out: &mut [u8], number: u64, line: Line) -> usize
     put_line(out, at, line)
 }
 
-// Copies a made line to the front of the lent room where it fits, and returns its size; else it writes nothing and returns 0.
+// Copies a made line to the front of the lent room where it fits, and returns how many bytes it wrote: its size, or 0.
 fn put_made(out: &mut [u8], made: &[u8]) -> usize
     ensures size { result ≡ size_in made.now (length out.old) }
     ensures content { out.new ≡ out_after made.now out.old }
@@ -157,8 +156,9 @@ fn put_made(out: &mut [u8], made: &[u8]) -> usize
     put(out, 0, made)
 }
 
-// Writes a line to the front of the lent room and returns its size. Later bytes stay as they were.
-// Where the room is too small it returns 0 and writes nothing; LINE_MOST bytes are enough for every line.
+// Writes a line to the front of the lent room and returns how many bytes it wrote: the line's size. Later bytes stay as they were.
+// Where the room is too small it writes nothing, so that is 0; LINE_MOST bytes are enough for every line. No `Display`: its `output` would go by std's
+// `decimal`, as `put_decimal` says, and the must-fail edits known_without_row and skipped_misspelt are of `put_line`.
 pub fn write_line(out: &mut [u8], line: Line) -> usize
     ensures size { result ≡ size_in (line_of line) (length out.old) }
     ensures content { out.new ≡ out_after (line_of line) out.old }
@@ -169,7 +169,8 @@ pub fn write_line(out: &mut [u8], line: Line) -> usize
     put_made(out, &made[..size])
 }
 
-// The same for a line with a number and a space in front; NUMBERED_MOST bytes are enough for every number and line.
+// The same for a line with a number and a space in front; NUMBERED_MOST bytes are enough for every number and line. One function over the writer, for both,
+// would have to repeat in its clause what either writer promises.
 pub fn write_numbered(out: &mut [u8], number: u64, line: Line) -> usize
     ensures size { result ≡ size_in (numbered_line number line) (length out.old) }
     ensures content { out.new ≡ out_after (numbered_line number line) out.old }

@@ -1,11 +1,8 @@
 -- `verdict_line::write_line` meets its contract: the line is made in a room of its own and copied where it fits (proofs/Lines.antt).
 use native.Mathlib.Omega.{arith}
 use Rattle.verdict_line.specs.Line.{line_most}
-use Rattle.verdict_line.proofs.Lines.{made_size, made_put}
+use Rattle.verdict_line.proofs.Lines.{made_put}
 use Rattle.verdict_line.proofs.write_line.Goals as goal
-
-pub slice_bounds-put_made-end : goal.slice_bounds-put_made-end
-slice_bounds-put_made-end c = made_size c.put_line-size.ensures.put (omega arith)
 
 pub returns : goal.returns
 returns c =

@@ -1,13 +1,8 @@
 -- `verdict_line::write_numbered` meets its contract: the line is made in a room of its own and copied where it fits (proofs/Lines.antt).
 use native.Mathlib.Omega.{arith}
 use Rattle.verdict_line.specs.Line.{numbered_most}
-use Rattle.verdict_line.proofs.Lines.{made_size, made_put}
+use Rattle.verdict_line.proofs.Lines.{made_put}
 use Rattle.verdict_line.proofs.write_numbered.Goals as goal
-
-pub slice_bounds-put_made-end : goal.slice_bounds-put_made-end
-slice_bounds-put_made-end c =
-    let m = c.put_numbered-size.ensures in
-    made_size m.0 (omega (arith, m.0.place, m.1))
 
 pub returns : goal.returns
 returns c =

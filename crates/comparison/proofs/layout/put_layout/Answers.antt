@@ -13,4 +13,4 @@ returns-then-same_layout c = rw (no_layout_line _ _ (sym c.same_layout.ensures â
 pub returns : goal.returns
 returns c =
     let e = layout_line_lem _ _ (sym c.same_layout.ensures âˆ™ c.if-same_layout.false) in
-    rw e (added_put (omega (arith, c.requires.second_in_bounds, ap length e)) c.add_bytes.ensures.place c.add_bytes.ensures.content)
+    rw e (added_put (omega (arith, c.requires, ap length e)) c.add_bytes.ensures.place c.add_bytes.ensures.content)

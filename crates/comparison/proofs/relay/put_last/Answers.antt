@@ -9,9 +9,9 @@ use Rattle.comparison.proofs.relay.put_last.Goals as goal
 pub returns-then-relay_only : goal.returns-then-relay_only
 returns-then-relay_only c =
     let e = ap last_line (sym c.relay_only.ensures ∙ c.if-relay_only.true) in
-    rw e (added_put (omega (arith, c.requires.second_in_bounds, ap length e)) c.add_bytes.ensures.place c.add_bytes.ensures.content)
+    rw e (added_put (omega (arith, c.requires, ap length e)) c.add_bytes.ensures.place c.add_bytes.ensures.content)
 
 pub returns : goal.returns
 returns c =
     let e = ap last_line (sym c.relay_only.ensures ∙ c.if-relay_only.false) in
-    rw e (added_put (omega (arith, c.requires.second_in_bounds, ap length e)) c.add_bytes-2.ensures.place c.add_bytes-2.ensures.content)
+    rw e (added_put (omega (arith, c.requires, ap length e)) c.add_bytes-2.ensures.place c.add_bytes-2.ensures.content)

@@ -4,30 +4,18 @@ use mathlib.Core.List.{List}
 use Prim.Native.Nat.{ℕ}
 use native.Mathlib.Omega.{arith}
 use Rattle.octets.specs.Bytes.{same_bytes}
-use Rattle.verdict_line.proofs.Lines.{made_take, made_size}
+use Rattle.verdict_line.proofs.Lines.{made_take}
 use Rattle.comparison.proofs.Reading.{passing_parts, shape_passes}
 use Rattle.comparison.proofs.Strips.{only_by}
 use Rattle.comparison.proofs.relay.relay_only.Goals as goal
 
 pub strip-size-requires : goal.strip-size-requires
 strip-size-requires c =
-    record { message_value = c.requires.first_value; message_in_bounds = (passing_parts _ (shape_passes _ c.requires.first_value)).short }
+    (passing_parts _ (shape_passes _ c.args.first.passes)).short
 
 pub strip-other_size-requires : goal.strip-other_size-requires
 strip-other_size-requires c =
-    record { message_value = c.requires.second_value; message_in_bounds = (passing_parts _ (shape_passes _ c.requires.second_value)).short }
-
-pub slice_bounds-one-end : goal.slice_bounds-one-end
-slice_bounds-one-end c = omega (arith, c.strip-size.ensures.1, c.strip-size.auto.out)
-
-pub slice_bounds-same-end : goal.slice_bounds-same-end
-slice_bounds-same-end c = made_size c.strip-size.ensures.0 (omega (arith, c.strip-size.ensures.0.place, c.strip-size.ensures.1))
-
-pub slice_bounds-other-end : goal.slice_bounds-other-end
-slice_bounds-other-end c = omega (arith, c.strip-other_size.ensures.1, c.strip-other_size.auto.out)
-
-pub slice_bounds-same-end-2 : goal.slice_bounds-same-end-2
-slice_bounds-same-end-2 c = made_size c.strip-other_size.ensures.0 (omega (arith, c.strip-other_size.ensures.0.place, c.strip-other_size.ensures.1))
+    (passing_parts _ (shape_passes _ c.args.second.passes)).short
 
 pub returns : goal.returns
 returns c =
