@@ -10,8 +10,7 @@ use Rattle.dhcp_message.proofs.Examples.{bench_examples}
 use Rattle.key_book.specs.Book.{Sound, all_below, sized, ascending, key_sizes, mark_fits, marks_fit, sound}
 use Rattle.key_book.proofs.Says.{sound_says}
 use Rattle.key_book.proofs.Computed.{example_10, example_12}
-use Rattle.delayed_auth.specs.declared.Verdict.{Verdict}
-use Rattle.delayed_auth.specs.Check.{check_of, verdict_number}
+use Rattle.delayed_auth.specs.Check.{check_of}
 use Rattle.comparison.proofs.Computed.{comparison_example}
 use Rattle.forcerenew.proofs.Computed.{nonce_examples}
 use Rattle.card_laws.specs.Examples.{book_b}
@@ -21,6 +20,10 @@ use Rattle.demands.proofs.Below.{said_form}
 use Rattle.demands.proofs.Computing.{computing}
 use Rattle.demands.proofs.Stages.{CheckEnd, check_unsound, check_refused, check_unknown, check_replay, check_wrong, check_accepts}
 use Rattle.demands.proofs.Stages.{check_end}
+use Rattle.std.specs.Prelude.{Result}
+use Rattle.refusal.specs.Number.{result_number}
+use Rattle.delayed_auth.specs.declared.Accepted.{Accepted}
+use Rattle.refusal.specs.declared.Refusal.{Refusal}
 
 b_sound : sound book_b ≡ true
 unfolding sound sized ascending key_sizes mark_fits marks_fit all_below
@@ -38,7 +41,7 @@ full_form m c id mac n number e l d =
     let f : form_number (form_of m) ≡ 0 = ap form_number (said_form m (says c id mac) e).form in
     (λ g. absurd (d g), λ g. absurd (omega arith))
 
-by_form : (m : List ℕ) (n : ℕ) → 2 ≤ n → n ≤ 9 → (v : Verdict) → CheckEnd book_b m v → (verdict_number v ≡ n) ↔ (form_number (form_of m) ≡ n)
+by_form : (m : List ℕ) (n : ℕ) → 2 ≤ n → n ≤ 9 → (v : Result Accepted Refusal) → CheckEnd book_b m v → (result_number v ≡ n) ↔ (form_number (form_of m) ≡ n)
 by_form m n l h v (check_unsound w) = absurd (w good)
 by_form m n l h v (check_refused {r} s e) = let f = ap form_number (said_form m (refused r) e) in (λ g. f ∙ g, λ g. sym f ∙ g)
 by_form m n l h v (check_unknown c id mac s e f) = full_form m c id mac n 10 e l (λ g. omega arith)

@@ -13,7 +13,6 @@ use Rattle.dhcp_message.specs.Said.{says, said_of, form_of}
 use Rattle.dhcp_message.specs.Image.{image_of}
 use Rattle.dhcp_message.specs.Seal.{fields, sealed_with}
 use Rattle.dhcp_message.specs.declared.Auth.{Auth}
-use Rattle.dhcp_message.specs.declared.Form.TheVariants.{Full}
 use Rattle.dhcp_message.proofs.Seals.{seal_laws}
 use Rattle.key_book.specs.Limits.{slot_size}
 use Rattle.key_book.specs.Book.{Book, Lent, Sound, key_of}
@@ -25,10 +24,11 @@ use Rattle.forcerenew.specs.Judging.{Judgement, servers_after}
 use Rattle.demands.proofs.DemandJudge.{heeded, nonce_stored, order_renews}
 use Rattle.demands.proofs.Stages.{check_accepts, end_check, accepted_accepts, key_names, end_key, keyed_names}
 use Rattle.demands.proofs.Stages.{SealedBy, seal_seals, end_seal, sealed_by}
+use Rattle.std.specs.Prelude.{Ok}
 
 -- ---- the image of a sealed message
 
-module _ (m : List ℕ) (a : Auth) (form : form_of m ≡ Full a) (c id : ℕ) where
+module _ (m : List ℕ) (a : Auth) (form : form_of m ≡ Ok a) (c id : ℕ) where
   -- it says the counter, the id and the MAC that were written
   says_written : (x : List ℕ) → length x ≡ mac_size → c < 2 ^ 64 → id < 2 ^ 32 → said_of (sealed_with a (fields c id ++ x) m) ≡ says c id x
   says_written x h l g =

@@ -4,23 +4,18 @@
 use mathlib.Core.Path.{◌≡◌, refl, sym, ap, ◌∙◌}
 use mathlib.Core.Logic.{◌≢◌}
 use mathlib.Core.Bool.{Bool, true, false}
-use mathlib.Core.Option.{Option, some}
 use mathlib.Core.List.{List}
 use Prim.Native.Nat.{ℕ, suc, ◌≤◌, ◌<◌}
 use native.Mathlib.Nat.{le_refl, le_of_lt}
 use native.Mathlib.Omega.{arith}
-use lib.ListN.{length, get_or, get_elem?}
+use lib.ListN.{length, get_or}
 use lib.Seq.{ext_get_or}
 use Rattle.refusal.specs.declared.Refusal.TheVariants.{Replay}
 use Rattle.dhcp_message.specs.Relay.{Relayed}
 use Rattle.key_book.specs.Book.{Book, Sound}
-use Rattle.delayed_auth.specs.declared.Verdict.{Verdict}
-use Rattle.delayed_auth.specs.declared.Verdict.TheVariants.{Accepted, Refused}
 use Rattle.delayed_auth.specs.Check.{new_to, check_of}
 use Rattle.forcerenew.specs.Layout.{gives_nonce, orders_renewal}
 use Rattle.forcerenew.specs.Rows.{SoundRows, sound_rows}
-use Rattle.forcerenew.specs.declared.Judged.{Judged}
-use Rattle.forcerenew.specs.declared.Judged.TheVariants.{Accepted as Heeded, Refused as Unheeded}
 use Rattle.forcerenew.specs.Judging.{Judgement, judge_of, judged_of}
 use Rattle.forcerenew.proofs.Soundness.{rows_say}
 use Rattle.forcerenew.proofs.Stored.{Heard, same_rows}
@@ -34,6 +29,12 @@ use Rattle.demands.proofs.Steps.{step_sound, replays, old_then, stays_old, not_a
 use Rattle.demands.proofs.Steps.{SameRows, rows_refl, rows_keep, rows_sound, rows_unsound, not_heeded}
 use Rattle.demands.proofs.Steps.{order_heard, order_again, nonce_gives, stays_heard}
 use Rattle.demands.proofs.ByRow.{walk, Channel, channel?, receives, sends, serves, holds, Alike, alike, channel, one_order, Within, local}
+use Rattle.std.specs.Prelude.{Err, Option, Result, Some, slice_get}
+use Rattle.delayed_auth.specs.declared.Accepted.{Accepted}
+use Rattle.forcerenew.specs.declared.Heeded.{Heeded}
+use Rattle.refusal.specs.declared.Refusal.{Refusal}
+use Rattle.delayed_auth.specs.Check.{accepting}
+use Rattle.forcerenew.specs.Judging.{heeding}
 
 -- ---- the states of a run
 
@@ -79,15 +80,15 @@ module _ (b₀ : State) (sound : Sound b₀.book) where
   -- ---- any order
 
   module _ (first second : List Step) (place : ℕ → ℕ) (made : Rearranged b₀ first second place) where
-    carries : (i : ℕ) (s : Step) → get_elem? first i ≡ some s → (t : Step) × (get_elem? second (place i) ≡ some t) × Alike s t
+    carries : (i : ℕ) (s : Step) → slice_get first i ≡ Some s → (t : Step) × (slice_get second (place i) ≡ Some t) × Alike s t
     carries i s e = let w = made.carried i s e in (w.0, w.1, alike s w.0 w.2)
 
-    order : (i j : ℕ) (s t : Step) (c : Channel) → get_elem? first i ≡ some s → get_elem? first j ≡ some t
-        → channel b₀.book s ≡ some c → channel b₀.book t ≡ some c → i < j → place i < place j
+    order : (i j : ℕ) (s t : Step) (c : Channel) → slice_get first i ≡ Some s → slice_get first j ≡ Some t
+        → channel b₀.book s ≡ Some c → channel b₀.book t ≡ Some c → i < j → place i < place j
     order i j s t c ei ej es et l = made.order i j s t ei ej (one_order b₀.book s t c es et) l
 
     put_in : (p : ℕ) → p < length second → ((i : ℕ) → i < length first → place i ≢ p)
-        → (t : Step) × (get_elem? second p ≡ some t) × ((c : Channel) → holds c (state_after (state_at b₀ second p) t) ≡ holds c (state_at b₀ second p))
+        → (t : Step) × (slice_get second p ≡ Some t) × ((c : Channel) → holds c (state_after (state_at b₀ second p) t) ≡ holds c (state_at b₀ second p))
     put_in p l f =
         let w = made.put_in p l f in
         (w.0, w.1, λ c. ap (holds c) (still (state_at b₀ second p) w.0 (sound_at second p) w.2))
@@ -131,18 +132,18 @@ module _ (b₀ : State) (sound : Sound b₀.book) where
   never_new run i j k c l m =
       kept_on walk (λ b. new_to b.book k c ≡ false) b₀ run i j l m (λ p s x y z. stays_old (state_at b₀ run p).book s k c (sound_at run p))
 
-  checked_same : (v w : Verdict) → ◌≡◌ {A = Option Answer} (some (checked v)) (some (checked w)) → v ≡ w
+  checked_same : (v w : Result Accepted Refusal) → ◌≡◌ {A = Option Answer} (Some (checked v)) (Some (checked w)) → v ≡ w
   checked_same v w e = cc
 
-  pub accepted_there : (run : List Step) (i : ℕ) (m : List ℕ) (k c : ℕ) → get_elem? run i ≡ some (check m)
-      → get_elem? (answers b₀ run) i ≡ some (checked (Accepted k c)) → check_of (state_at b₀ run i).book m ≡ Accepted k c
+  pub accepted_there : (run : List Step) (i : ℕ) (m : List ℕ) (k c : ℕ) → slice_get run i ≡ Some (check m)
+      → slice_get (answers b₀ run) i ≡ Some (checked (accepting k c)) → check_of (state_at b₀ run i).book m ≡ accepting k c
   accepted_there run i m k c e a = checked_same _ _ (sym (answer_at walk b₀ run i (check m) e) ∙ a)
 
   module _
-      (run : List Step) (i j : ℕ) (m : List ℕ) (k c : ℕ) (later : i < j) (at_i : get_elem? run i ≡ some (check m))
-      (accepted : get_elem? (answers b₀ run) i ≡ some (checked (Accepted k c)))
+      (run : List Step) (i j : ℕ) (m : List ℕ) (k c : ℕ) (later : i < j) (at_i : slice_get run i ≡ Some (check m))
+      (accepted : slice_get (answers b₀ run) i ≡ Some (checked (accepting k c)))
     where
-      accepted_i : check_of (state_at b₀ run i).book m ≡ Accepted k c
+      accepted_i : check_of (state_at b₀ run i).book m ≡ accepting k c
       accepted_i = accepted_there run i m k c at_i accepted
 
       -- from then on no counter up to the accepted one is new to the row
@@ -151,43 +152,44 @@ module _ (b₀ : State) (sound : Sound b₀.book) where
           never_new run (suc i) j k d later (le_of_lt l)
           (rw (next_at walk b₀ run i (check m) at_i) (old_then (state_at b₀ run i).book m k c d (sound_at run i) accepted_i h))
 
-      replayed : (n : List ℕ) → get_elem? run j ≡ some (check n) → Relayed m n → get_elem? (answers b₀ run) j ≡ some (checked (Refused Replay))
+      replayed : (n : List ℕ) → slice_get run j ≡ Some (check n) → Relayed m n → slice_get (answers b₀ run) j ≡ Some (checked (Err Replay))
       replayed n at_j q =
           let a = (state_at b₀ run i).book in
           let b = (state_at b₀ run j).book in
           let again = replays b₀.book a b m k c (ids_at run i) (ids_at run j) accepted_i (old_after (lt_at run j (check n) at_j) c (le_refl c)) in
           let unseen = check_reads b₀.book b b (ids_at run j) (ids_at run j) m n q (λ id k e f. refl) in
-          answer_at walk b₀ run j (check n) at_j ∙ ap (λ (v : Verdict). some (checked v)) (unseen ∙ again)
+          answer_at walk b₀ run j (check n) at_j ∙ ap (λ (v : Result Accepted Refusal). Some (checked v)) (unseen ∙ again)
 
 -- ---- judgements shown again
 
-judged_same : (v w : Judged) → ◌≡◌ {A = Option Answer} (some (judged v)) (some (judged w)) → v ≡ w
+judged_same : (v w : Result Heeded Refusal) → ◌≡◌ {A = Option Answer} (Some (judged v)) (Some (judged w)) → v ≡ w
 judged_same v w e = cc
 
-module _ (b₀ : State) (run : List Step) (i j k : ℕ) (m : List ℕ) (later : i < j) (at_i : get_elem? run i ≡ some (judge k m)) where
-  heeded_i : (type c : ℕ) → get_elem? (answers b₀ run) i ≡ some (judged (Heeded type c)) → judged_of (judge_of (state_at b₀ run i).servers k m) ≡ Heeded type c
+module _ (b₀ : State) (run : List Step) (i j k : ℕ) (m : List ℕ) (later : i < j) (at_i : slice_get run i ≡ Some (judge k m)) where
+  heeded_i : (type c : ℕ) → slice_get (answers b₀ run) i ≡ Some (judged (heeding type c))
+      → judged_of (judge_of (state_at b₀ run i).servers k m) ≡ heeding type c
   heeded_i type c e = judged_same _ _ (sym (answer_at walk b₀ run i (judge k m) at_i) ∙ e)
 
   -- an order, as long as its row takes no other nonce: the row stays heard with its counter or a larger one
   module _
-      (c : ℕ) (accepted : get_elem? (answers b₀ run) i ≡ some (judged (Heeded orders_renewal c))) (at_j : get_elem? run j ≡ some (judge k m))
-      (no_other : (p : ℕ) (n : List ℕ) → i < p → p < j → get_elem? run p ≡ some (judge k n) → OtherNonce (state_at b₀ run p).servers k n → ⊥)
+      (c : ℕ) (accepted : slice_get (answers b₀ run) i ≡ Some (judged (heeding orders_renewal c))) (at_j : slice_get run j ≡ Some (judge k m))
+      (no_other : (p : ℕ) (n : List ℕ) → i < p → p < j → slice_get run p ≡ Some (judge k n) → OtherNonce (state_at b₀ run p).servers k n → ⊥)
     where
       heard_on : Heard (state_at b₀ run j).servers k c
       heard_on =
           kept_on walk (λ b. Heard b.servers k c) b₀ run (suc i) j later (le_of_lt (lt_at run j (judge k m) at_j))
-          (λ p s x y e h. stays_heard (state_at b₀ run p).servers s k c (λ n f. no_other p n x y (e ∙ ap some f)) h)
+          (λ p s x y e h. stays_heard (state_at b₀ run p).servers s k c (λ n f. no_other p n x y (e ∙ ap Some f)) h)
           (rw (next_at walk b₀ run i (judge k m) at_i) (order_heard (state_at b₀ run i).servers k m c (heeded_i orders_renewal c accepted)))
 
-      ordered_again : get_elem? (answers b₀ run) j ≡ some (judged (Unheeded Replay))
+      ordered_again : slice_get (answers b₀ run) j ≡ Some (judged (Err Replay))
       ordered_again =
           answer_at walk b₀ run j (judge k m) at_j
-          ∙ ap (λ (x : Judgement). some (judged (judged_of x)))
+          ∙ ap (λ (x : Judgement). Some (judged (judged_of x)))
           (order_again (state_at b₀ run i).servers (state_at b₀ run j).servers k m c (heeded_i orders_renewal c accepted) heard_on)
 
   -- an ACK, for any row that is there
   module _
-      (l c : ℕ) (accepted : get_elem? (answers b₀ run) i ≡ some (judged (Heeded gives_nonce c))) (at_j : get_elem? run j ≡ some (judge l m))
+      (l c : ℕ) (accepted : slice_get (answers b₀ run) i ≡ Some (judged (heeding gives_nonce c))) (at_j : slice_get run j ≡ Some (judge l m))
       (there : l < length b₀.servers.marks)
     where
       given : (nonce : List ℕ) × GivesNonce (state_at b₀ run i).servers k m c nonce
@@ -214,10 +216,10 @@ module _ (b₀ : State) (run : List Step) (i j k : ℕ) (m : List ℕ) (later : 
             value = g.value;
           }
 
-      accepted_again : get_elem? (answers b₀ run) j ≡ some (judged (Heeded gives_nonce c))
+      accepted_again : slice_get (answers b₀ run) j ≡ Some (judged (heeding gives_nonce c))
       accepted_again =
           answer_at walk b₀ run j (judge l m) at_j
-          ∙ ap (λ (v : Judged). some (judged v)) ((demand_2.heeded (state_at b₀ run j).servers l m gives_nonce c).1 (nonce_given given_again))
+          ∙ ap (λ (v : Result Heeded Refusal). Some (judged v)) ((demand_2.heeded (state_at b₀ run j).servers l m gives_nonce c).1 (nonce_given given_again))
 
       stored_again : Stores (state_at b₀ run j).servers l given.0 (state_at b₀ run (suc j)).servers
       stored_again =
@@ -236,8 +238,8 @@ runs_keep_sound = record {
 pub demand_3 : Demand3
 demand_3 = record {
   any_order = same_run;
-  no_replay = λ b s run i j m n k c l e f g q. (Refused Replay, replayed b s run i j m k c l e f n g q, refl);
-  no_order_twice = λ b run i j k c m l e f g h. (Unheeded Replay, ordered_again b run i j k m l e c f g h, refl);
+  no_replay = λ b s run i j m n k c l e f g q. (Err Replay, replayed b s run i j m k c l e f n g q, refl);
+  no_order_twice = λ b run i j k c m l e f g h. (Err Replay, ordered_again b run i j k m l e c f g h, refl);
   ack_again = λ b run i j k l c m h e f g r. (
     accepted_again b run i j k m h e l c f g r,
     ((given b run i j k m h e l c f g r).0, (given b run i j k m h e l c f g r).1, stored_again b run i j k m h e l c f g r),

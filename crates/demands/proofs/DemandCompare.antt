@@ -2,11 +2,10 @@
 use mathlib.Core.Path.{◌≡◌, refl, sym}
 use mathlib.Core.Logic.{◌≢◌}
 use mathlib.Core.List.{List}
-use mathlib.Core.Option.{some}
 use Prim.Native.Nat.{ℕ, ◌+◌, ◌≤◌, ◌<◌}
 use native.Mathlib.Omega.{arith}
-use lib.ListN.{length, get_elem?}
-use Rattle.refusal.specs.Number.{number_of, done}
+use lib.ListN.{length}
+use Rattle.refusal.specs.Number.{number_of, done, result_number}
 use Rattle.refusal.specs.Lowest.{NothingBelow}
 use Rattle.refusal.specs.First.{NothingBefore, FirstOf, fault, no_fault}
 use Rattle.refusal.specs.declared.Refusal.{Refusal}
@@ -16,12 +15,11 @@ use Rattle.dhcp_message.specs.Message.{Passes27}
 use Rattle.dhcp_message.specs.Numbers.{Applies, wrong_size, wrong_cookie, broken_options, no_authentication, repeated_authentication}
 use Rattle.dhcp_message.specs.Numbers.{repeated_relay_information, other_form, request_form}
 use Rattle.dhcp_message.proofs.Lowest.{lowest_given, shape_given}
-use Rattle.comparison.specs.declared.Compared.{Compared}
-use Rattle.comparison.specs.declared.Compared.TheVariants.{Refused, Size}
-use Rattle.comparison.specs.Entry.{text_for, compare_of, compared_number, room_compared}
+use Rattle.comparison.specs.Entry.{text_for, compare_of, room_compared}
 use Rattle.comparison.proofs.Entries.{CompareCase, in_first, in_second, in_room, all_written, compare_case, room_by_lem}
 use Rattle.demands.specs.Demand1.{CompareFault, of_first, of_second, of_room, compare_number, compare_order}
 use Rattle.demands.specs.Demand1.{CompareApplies, first_has, second_has, small_room}
+use Rattle.std.specs.Prelude.{Err, Ok, Result, Some, ℕ, slice_get}
 
 -- ---- the places of the order, counted from 2: those of the first message by their numbers, behind them those of the second, then the room
 
@@ -30,14 +28,14 @@ place_of (of_first r) = number_of r
 place_of (of_second r) = 6 + number_of r
 place_of of_room = 14
 
-place_at : (i : ℕ) (f : CompareFault) → get_elem? compare_order i ≡ some f → 2 + i ≡ place_of f
+place_at : (i : ℕ) (f : CompareFault) → slice_get compare_order i ≡ Some f → 2 + i ≡ place_of f
 unfolding place_of
 place_at i f e =
     in_place place_of 2 compare_order (refl, (refl, (refl, (refl, (refl, (refl, (refl, (refl, (refl, (refl, (refl, (refl, (refl, tt))))))))))))) i f e
 
 -- where the numbers of a message stand
 module _ {m : List ℕ} where
-  first_placed : (r : Refusal) → Applies m r → number_of r < 8 → (i : ℕ) × (get_elem? compare_order i ≡ some (of_first r))
+  first_placed : (r : Refusal) → Applies m r → number_of r < 8 → (i : ℕ) × (slice_get compare_order i ≡ Some (of_first r))
   first_placed r (wrong_size h) l = (0, refl)
   first_placed r (wrong_cookie h) l = (1, refl)
   first_placed r (broken_options h) l = (2, refl)
@@ -47,7 +45,7 @@ module _ {m : List ℕ} where
   first_placed r (other_form h) l = absurd (omega arith)
   first_placed r (request_form h) l = absurd (omega arith)
 
-  second_placed : (r : Refusal) → Applies m r → number_of r < 8 → (i : ℕ) × (get_elem? compare_order i ≡ some (of_second r))
+  second_placed : (r : Refusal) → Applies m r → number_of r < 8 → (i : ℕ) × (slice_get compare_order i ≡ Some (of_second r))
   second_placed r (wrong_size h) l = (6, refl)
   second_placed r (wrong_cookie h) l = (7, refl)
   second_placed r (broken_options h) l = (8, refl)
@@ -79,7 +77,7 @@ module _ (first second room : List ℕ) (bf : Bytes first) (bs : Bytes second) w
   passing m b h r a l = (lowest_given.passes m b).0 h r l a
 
   -- what stands before a place doesn't apply, where every fault that applies has its place at or behind it
-  before : (i : ℕ) (f : CompareFault) → get_elem? compare_order i ≡ some f → ((q : CompareFault) → A q → place_of q < place_of f → ⊥)
+  before : (i : ℕ) (f : CompareFault) → slice_get compare_order i ≡ Some f → ((q : CompareFault) → A q → place_of q < place_of f → ⊥)
       → NothingBefore compare_order A i
   before i f at h j q l e a = h q a (omega (arith, place_at i f at, place_at j q e))
 
@@ -110,7 +108,7 @@ module _ (first second room : List ℕ) (bf : Bytes first) (bs : Bytes second) w
   none_at_all pass past fits f (second_has {r = x} a m) = passing second bs past x a m
   none_at_all pass past fits f (small_room g h m) = omega arith
 
-  by_case : (c : Compared) → CompareCase first second (length room) c → FirstOf compare_order compare_number A (compared_number c)
+  by_case : (c : Result ℕ Refusal) → CompareCase first second (length room) c → FirstOf compare_order compare_number A (result_number c)
   by_case c (in_first r e) =
       let w = (shape_given.refused first bf r).0 e in
       let p = first_placed r w.0 w.2 in
@@ -122,12 +120,12 @@ module _ (first second room : List ℕ) (bf : Bytes first) (bs : Bytes second) w
   by_case c (in_room h k l) = fault 12 of_room refl (small_room h k l) (before 12 of_room refl (none_room h k)) refl
   by_case c (all_written h k l) = no_fault (none_at_all h k l) refl
 
-  pub compare_number_lem : FirstOf compare_order compare_number A (compared_number (compare_of first second (length room)))
+  pub compare_number_lem : FirstOf compare_order compare_number A (result_number (compare_of first second (length room)))
   compare_number_lem = by_case (compare_of first second (length room)) (compare_case first second (length room))
 
-pub compare_keeps : (first second room : List ℕ) → compared_number (compare_of first second (length room)) ≢ done → room_compared first second room ≡ room
+pub compare_keeps : (first second room : List ℕ) → result_number (compare_of first second (length room)) ≢ done → room_compared first second room ≡ room
 compare_keeps first second room h = by (compare_of first second (length room)) refl h
   where
-    by : (c : Compared) → compare_of first second (length room) ≡ c → compared_number c ≢ done → room_compared first second room ≡ room
-    by (Refused r) e n = sym (room_by_lem first second room (sym e))
-    by (Size size) e n = absurd (n refl)
+    by : (c : Result ℕ Refusal) → compare_of first second (length room) ≡ c → result_number c ≢ done → room_compared first second room ≡ room
+    by (Err r) e n = sym (room_by_lem first second room (sym e))
+    by (Ok size) e n = absurd (n refl)

@@ -3,15 +3,14 @@ use mathlib.Core.Path.{◌≡◌, refl, sym, ap, ap₂, ◌∙◌, subst}
 use mathlib.Core.Logic.{◌≢◌, ◌⊎◌, ◌↔◌, inl, inr}
 use mathlib.Core.Bool.{Bool, true, false, cond, ◌&&◌, not, true≢false, and-eq-true_iff}
 use mathlib.Core.List.{List, [], ◌∷◌}
-use mathlib.Core.Option.{Option, none, some}
 use Prim.Native.Nat.{ℕ, suc, ◌+◌, ◌≤◌, ◌<◌}
 use native.Mathlib.Nat.{zero-add}
 use native.Mathlib.Decide.{dec_le}
 use native.Mathlib.Omega.{arith}
 use borrow.Author.Tests.{eq-eqb, ne_eqb, eqb-true}
 use lib.Dec.{eqb}
-use lib.ListN.{length, get_or, get_elem?, take, drop}
-use Rattle.refusal.specs.Number.{number_of, done}
+use lib.ListN.{length, get_or, take, drop}
+use Rattle.refusal.specs.Number.{number_of, done, result_number}
 use Rattle.refusal.specs.First.{First}
 use Rattle.refusal.specs.declared.Refusal.{Refusal}
 use Rattle.refusal.specs.declared.Refusal.TheVariants.{UnsoundBook, MessageSize, WrongCookie, BrokenOptions, NoAuthentication, RepeatedAuthentication}
@@ -27,22 +26,23 @@ use Rattle.dhcp_message.specs.Numbers.{repeated_relay_information, other_form as
 use Rattle.dhcp_message.specs.Shape.{shape_of}
 use Rattle.dhcp_message.specs.Types.{message_type_of}
 use Rattle.dhcp_message.specs.declared.Places.{Places}
-use Rattle.dhcp_message.specs.declared.Shape.TheVariants.{Refused as ShapeRefused, Passed}
 use Rattle.dhcp_message.proofs.Lowest.{shape_given}
 use Rattle.dhcp_message.proofs.Replays.{new_says}
 use Rattle.forcerenew.specs.Layout.{by_nonce}
 use Rattle.forcerenew.specs.Rows.{Servers, SoundRows, sound_rows, nonce_at, row_at}
 use Rattle.forcerenew.specs.Shown.{Shown, gives, orders, unfit, counter_in, type_in, value_in, image_at}
-use Rattle.forcerenew.specs.Judging.{Judgement, takes, knows, renews, refused, known_to, new_to, judge_of, judged_of, judged_number, servers_after}
-use Rattle.forcerenew.specs.declared.Judged.TheVariants.{Accepted as Heeded}
+use Rattle.forcerenew.specs.Judging.{Judgement, takes, knows, renews, refused, known_to, new_to, judge_of, judged_of, servers_after}
 use Rattle.forcerenew.proofs.Soundness.{rows_say}
 use Rattle.forcerenew.proofs.Cases as cases
-use Rattle.forcerenew.proofs.Cases.{Formed, ShownCase, other_length, other_method, other_type, a_nonce, an_order, Placed, JudgeCase, judge_case, case_judge}
+use Rattle.forcerenew.proofs.Cases.{heeding_parts, Formed, ShownCase, other_length, other_method, other_type, a_nonce, an_order}
+use Rattle.forcerenew.proofs.Cases.{Placed, JudgeCase, judge_case, case_judge}
 use Rattle.demands.specs.Accepts.{OptionAt, ByNonce, GivesNonce, OrdersRenewal, Heeds, nonce_given, renewal_ordered, HasNonce, Stores, had_it, took_it}
 use Rattle.demands.specs.Demand1.{GoesWith, nonce_in_ack, mac_in_forcerenew, JudgeApplies, not_sound, by_shape, no_row, other_form}
 use Rattle.demands.specs.Demand1.{wrong_type, no_nonce, not_new, differs, judging_order}
 use Rattle.demands.proofs.Below.{never}
 use Rattle.demands.proofs.Runs.{lt_at}
+use Rattle.std.specs.Prelude.{Err, None, Ok, Option, Some, slice_get}
+use Rattle.forcerenew.specs.Judging.{heeding}
 
 -- ---- the places of the order
 
@@ -54,7 +54,7 @@ place_in n (q ∷ l) = cond (eqb (number_of q) n) 0 (suc (place_in n l))
 place_of : Refusal → ℕ
 place_of r = place_in (number_of r) judging_order
 
-place_at : (i : ℕ) (r : Refusal) → get_elem? judging_order i ≡ some r → i ≡ place_of r
+place_at : (i : ℕ) (r : Refusal) → slice_get judging_order i ≡ Some r → i ≡ place_of r
 unfolding place_of place_in
 place_at i r e =
     sym (zero-add i)
@@ -70,7 +70,7 @@ module _ (s : Servers) (k : ℕ) (m : List ℕ) where
   mark = get_or s.marks k 0
 
   -- what the message alone decides has a place
-  shape_placed : (r : Refusal) → Applies m r → number_of r < 8 → (i : ℕ) × (get_elem? judging_order i ≡ some r)
+  shape_placed : (r : Refusal) → Applies m r → number_of r < 8 → (i : ℕ) × (slice_get judging_order i ≡ Some r)
   unfolding place_of place_in
   shape_placed r (wrong_size h) l = (place_of MessageSize, refl)
   shape_placed r (wrong_cookie h) l = (place_of WrongCookie, refl)
@@ -81,7 +81,7 @@ module _ (s : Servers) (k : ℕ) (m : List ℕ) where
   shape_placed r (other-delayed h) l = absurd (omega arith)
   shape_placed r (request_form h) l = absurd (omega arith)
 
-  placed : (r : Refusal) → A r → (i : ℕ) × (get_elem? judging_order i ≡ some r)
+  placed : (r : Refusal) → A r → (i : ℕ) × (slice_get judging_order i ≡ Some r)
   unfolding place_of place_in
   placed r (not_sound h) = (place_of UnsoundBook, refl)
   placed r (by_shape a l) = shape_placed r a l
@@ -141,14 +141,14 @@ module _ (s : Servers) (k : ℕ) (m : List ℕ) where
   -- ---- what is known at each end
 
   -- option 90 stands at one place
-  option_is : (p : Places) → shape_of m ≡ Passed p → (o : ℕ) → OptionAt m o → o ≡ p.at
+  option_is : (p : Places) → shape_of m ≡ Ok p → (o : ℕ) → OptionAt m o → o ≡ p.at
   option_is p e o at =
       let f = sym at.form ∙ e in
       let same : at.places ≡ p = cc in
       at.place ∙ ap (λ (x : Places). x.at) same
 
   module _ (bytes : Bytes m) where
-    shape_none : (p : Places) → shape_of m ≡ Passed p → (r : Refusal) → Applies m r → number_of r < 8 → ⊥
+    shape_none : (p : Places) → shape_of m ≡ Ok p → (r : Refusal) → Applies m r → number_of r < 8 → ⊥
     shape_none p e r a l = (shape_given.passed m bytes).0 (p, e) r l a
 
     -- before anything of option 90 is looked at
@@ -202,10 +202,10 @@ module _ (s : Servers) (k : ℕ) (m : List ℕ) where
       matched type (mac_in_forcerenew e) = cases.mac_in_forcerenew refl e
 
     abbrev refusal_in : Judgement → Option Refusal
-    refusal_in (takes c nonce) = none
-    refusal_in (knows c) = none
-    refusal_in (renews c) = none
-    refusal_in (refused r) = some r
+    refusal_in (takes c nonce) = None
+    refusal_in (knows c) = None
+    refusal_in (renews c) = None
+    refusal_in (refused r) = Some r
 
     abbrev Good : Judgement → Type 0
     Good j = RightIn judging_order A place_of place_at placed (refusal_in j)
@@ -214,11 +214,11 @@ module _ (s : Servers) (k : ℕ) (m : List ℕ) where
     none_left : Past (length judging_order) → (r : Refusal) → A r → ⊥
     none_left p r a = let w = placed r a in omega (arith, after (length judging_order) p r a, place_at w.0 r w.1, last w.0 r w.1)
       where
-        last : (i : ℕ) (r : Refusal) → get_elem? judging_order i ≡ some r → i < length judging_order
+        last : (i : ℕ) (r : Refusal) → slice_get judging_order i ≡ Some r → i < length judging_order
         last i r e = lt_at judging_order i r e
 
     -- 2 to 7: the lowest of them that applies stands before the others
-    good_unread : (r : Refusal) → sound_rows s ≡ true → shape_of m ≡ ShapeRefused r → Good (refused r)
+    good_unread : (r : Refusal) → sound_rows s ≡ true → shape_of m ≡ Err r → Good (refused r)
     unfolding place_of place_in
     good_unread r e f =
         let w = (shape_given.refused m bytes r).0 f in
@@ -320,19 +320,19 @@ module _ (s : Servers) (k : ℕ) (m : List ℕ) where
 
   -- ---- demand 1
 
-  pub judge_number : Bytes m → First judging_order A (judged_number (judged_of (judge_of s k m)))
+  pub judge_number : Bytes m → First judging_order A (result_number (judged_of (judge_of s k m)))
   judge_number bytes = by (judge_of s k m) (good bytes (judge_of s k m) (judge_case s k m))
     where
-      by : (j : Judgement) → Good bytes j → First judging_order A (judged_number (judged_of j))
-      by (takes c nonce) h = first judging_order A place_of place_at placed none h
-      by (knows c) h = first judging_order A place_of place_at placed none h
-      by (renews c) h = first judging_order A place_of place_at placed none h
-      by (refused r) h = first judging_order A place_of place_at placed (some r) h
+      by : (j : Judgement) → Good bytes j → First judging_order A (result_number (judged_of j))
+      by (takes c nonce) h = first judging_order A place_of place_at placed None h
+      by (knows c) h = first judging_order A place_of place_at placed None h
+      by (renews c) h = first judging_order A place_of place_at placed None h
+      by (refused r) h = first judging_order A place_of place_at placed (Some r) h
 
-  pub judge_keeps : judged_number (judged_of (judge_of s k m)) ≢ done → servers_after k (judge_of s k m) s ≡ s
+  pub judge_keeps : result_number (judged_of (judge_of s k m)) ≢ done → servers_after k (judge_of s k m) s ≡ s
   judge_keeps = by (judge_of s k m)
     where
-      by : (j : Judgement) → judged_number (judged_of j) ≢ done → servers_after k j s ≡ s
+      by : (j : Judgement) → result_number (judged_of j) ≢ done → servers_after k j s ≡ s
       by (takes c nonce) h = absurd (h refl)
       by (knows c) h = refl
       by (renews c) h = absurd (h refl)
@@ -340,7 +340,7 @@ module _ (s : Servers) (k : ℕ) (m : List ℕ) where
 
   -- ---- demand 2
 
-  by_nonce_lem : (p : Places) → shape_of m ≡ Passed p → Formed m p.at → ByNonce m p.at
+  by_nonce_lem : (p : Places) → shape_of m ≡ Ok p → Formed m p.at → ByNonce m p.at
   by_nonce_lem p e f = record {
     option = record { places = p; form = e; place = refl };
     size = f.size;
@@ -412,10 +412,10 @@ module _ (s : Servers) (k : ℕ) (m : List ℕ) where
     known : known_to (row_at s k) nonce ≡ true → judge_of s k m ≡ knows c
     known e = case_judge s k m _ (cases.judge_knows q shows e)
 
-    nonce_heeded : judged_of (judge_of s k m) ≡ Heeded 1 c
+    nonce_heeded : judged_of (judge_of s k m) ≡ heeding 1 c
     nonce_heeded = by (known_to (row_at s k) nonce) refl
       where
-        by : (t : Bool) → known_to (row_at s k) nonce ≡ t → judged_of (judge_of s k m) ≡ Heeded 1 c
+        by : (t : Bool) → known_to (row_at s k) nonce ≡ t → judged_of (judge_of s k m) ≡ heeding 1 c
         by true e = ap judged_of (known e)
         by false e = ap judged_of (taken e)
 
@@ -436,30 +436,30 @@ module _ (s : Servers) (k : ℕ) (m : List ℕ) where
       case_judge s k m _ (cases.judge_renews (places_of g.o g.rows g.row g.form) shows g.nonce_there new g.right)
       ∙ ap renews (sym g.counter)
 
-  heeded_to : (type c : ℕ) (j : Judgement) → JudgeCase s k m j → judged_of j ≡ Heeded type c → Heeds s k m type c
+  heeded_to : (type c : ℕ) (j : Judgement) → JudgeCase s k m j → judged_of j ≡ heeding type c → Heeds s k m type c
   heeded_to type c j (cases.judge_unsound e) h = never cc
   heeded_to type c j (cases.judge_unread e f) h = never cc
   heeded_to type c j (cases.judge_no_row e f l) h = never cc
   heeded_to type c j (cases.judge_unfit q x) h = never cc
   heeded_to type c j (cases.judge_takes {p} {c = d} {nonce} q x e) h =
-      let t : 1 ≡ type = cc in
-      let d-is : d ≡ c = cc in
+      let t = (heeding_parts h).0 in
+      let d-is = (heeding_parts h).1 in
       subst (λ (y : ℕ). Heeds s k m y c) t (nonce_given (gives_by p c nonce q (subst (λ (y : ℕ). ShownCase m p.at (gives y nonce)) d-is x)))
   heeded_to type c j (cases.judge_knows {p} {c = d} {nonce} q x e) h =
-      let t : 1 ≡ type = cc in
-      let d-is : d ≡ c = cc in
+      let t = (heeding_parts h).0 in
+      let d-is = (heeding_parts h).1 in
       subst (λ (y : ℕ). Heeds s k m y c) t (nonce_given (gives_by p c nonce q (subst (λ (y : ℕ). ShownCase m p.at (gives y nonce)) d-is x)))
   heeded_to type c j (cases.judge_no_nonce q x e) h = never cc
   heeded_to type c j (cases.judge_replay q x n e) h = never cc
   heeded_to type c j (cases.judge_wrong q x n e d) h = never cc
   heeded_to type c j (cases.judge_renews {p} {c = d} {mac} {image} q x n e r) h =
-      let t : 2 ≡ type = cc in
-      let d-is : d ≡ c = cc in
+      let t = (heeding_parts h).0 in
+      let d-is = (heeding_parts h).1 in
       subst (λ (y : ℕ). Heeds s k m y c) t (renewal_ordered (subst (λ (y : ℕ). OrdersRenewal s k m y) d-is (orders_by p d mac image q x n e r)))
 
-  heeded_from : (type c : ℕ) → Heeds s k m type c → judged_of (judge_of s k m) ≡ Heeded type c
+  heeded_from : (type c : ℕ) → Heeds s k m type c → judged_of (judge_of s k m) ≡ heeding type c
   heeded_from type c (nonce_given {nonce = nonce} g) = nonce_heeded c nonce g
   heeded_from type c (renewal_ordered g) = ap judged_of (order_renews c g)
 
-  pub heeded : (type c : ℕ) → (judged_of (judge_of s k m) ≡ Heeded type c) ↔ Heeds s k m type c
+  pub heeded : (type c : ℕ) → (judged_of (judge_of s k m) ≡ heeding type c) ↔ Heeds s k m type c
   heeded type c = (heeded_to type c (judge_of s k m) (judge_case s k m), heeded_from type c)

@@ -2,7 +2,6 @@
 use mathlib.Core.Path.{◌≡◌, refl, sym, ap, ap₂, ◌∙◌}
 use mathlib.Core.Bool.{Bool, ◌&&◌, not}
 use mathlib.Core.List.{List, ◌++◌}
-use mathlib.Core.Option.{Option, none, some}
 use Prim.Native.Nat.{ℕ, ◌≤◌, ◌<◌}
 use native.Mathlib.Decide.{ℕ_discrete, dec_lt}
 use borrow.Author.Tests.{eq-eqb, ne_eqb}
@@ -18,14 +17,10 @@ use Rattle.dhcp_message.specs.Image.{image_of}
 use Rattle.dhcp_message.specs.Replay.{is_new}
 use Rattle.dhcp_message.specs.Seal.{fields, sealed_with, with_fields, Rewritten}
 use Rattle.dhcp_message.specs.declared.Auth.{Auth}
-use Rattle.dhcp_message.specs.declared.Form.TheVariants.{Full}
 use Rattle.dhcp_message.proofs.Seals.{seal_laws}
 use Rattle.key_book.specs.Limits.{heard}
 use Rattle.key_book.specs.Book.{Book, Sound, row_of, key_of}
 use Rattle.key_book.proofs.Says.{sound_says, sound_depends, row_depends, row_says, key_depends}
-use Rattle.delayed_auth.specs.declared.Verdict.{Verdict}
-use Rattle.delayed_auth.specs.declared.Keyed.{Keyed}
-use Rattle.delayed_auth.specs.declared.Keyed.TheVariants.{Row, NoKey}
 use Rattle.delayed_auth.specs.Check.{new_to, check_of}
 use Rattle.delayed_auth.specs.Key.{keyed_of, key_bytes}
 use Rattle.delayed_auth.specs.Seal.{Outcome, seal_of}
@@ -45,6 +40,9 @@ use Rattle.demands.proofs.Stages.{CheckEnd, check_unsound, check_refused, check_
 use Rattle.demands.proofs.Stages.{check_end, end_check, accepts_claims, claims_names}
 use Rattle.demands.proofs.Stages.{KeyEnd, key_unsound, key_refused, key_unknown, key_names, key_end, end_key}
 use Rattle.demands.proofs.Stages.{SealEnd, seal_unsound, seal_refused, seal_unknown, seal_spent, seal_seals, seal_end, end_seal}
+use Rattle.std.specs.Prelude.{Err, None, Ok, Option, Result, Some, ℕ}
+use Rattle.delayed_auth.specs.declared.Accepted.{Accepted}
+use Rattle.refusal.specs.declared.Refusal.{Refusal}
 
 -- ---- two books with the same soundness and ids
 
@@ -65,7 +63,7 @@ pub check_same : (a b : Book) (m n : List ℕ) → SameForCheck a b m → said_o
 check_same a b m n w said image = end_check b n (check_of a m) (same (check_of a m) (check_end a m))
   where
     claims : {c k : ℕ} {mac : List ℕ} → Claims a m c k mac → Claims b n c k mac
-    claims {k = k} x = record { id = x.id; form = said ∙ x.form; secret = row_too a b w.secrets x.id (some k) x.secret }
+    claims {k = k} x = record { id = x.id; form = said ∙ x.form; secret = row_too a b w.secrets x.id (Some k) x.secret }
 
     good : Sound a → Sound b
     good = sound_too a b w.secrets
@@ -75,10 +73,10 @@ check_same a b m n w said image = end_check b n (check_of a m) (same (check_of a
         let n = claims_names x in
         sym (ap₂ (λ (mark received : ℕ). is_new (eqb mark heard) received c) (w.mark k s n) (w.received k s n))
 
-    same : (v : Verdict) → CheckEnd a m v → CheckEnd b n v
+    same : (v : Result Accepted Refusal) → CheckEnd a m v → CheckEnd b n v
     same v (check_unsound h) = check_unsound (unsound_too a b w.secrets h)
     same v (check_refused s e) = check_refused (good s) (said ∙ e)
-    same v (check_unknown c id mac s e f) = check_unknown c id mac (good s) (said ∙ e) (row_too a b w.secrets id none f)
+    same v (check_unknown c id mac s e f) = check_unknown c id mac (good s) (said ∙ e) (row_too a b w.secrets id None f)
     same v (check_replay c k mac s x h) = check_replay c k mac (good s) (claims x) (new s x ∙ h)
     same v (check_wrong c k mac s x h g) =
         check_wrong c k mac (good s) (claims x) (new s x ∙ h) (rw (w.key k s (claims_names x), ← image) at g)
@@ -88,7 +86,7 @@ check_same a b m n w said image = end_check b n (check_of a m) (same (check_of a
           id = x.id;
           mac = x.mac;
           form = said ∙ x.form;
-          secret = row_too a b w.secrets x.id (some k) x.secret;
+          secret = row_too a b w.secrets x.id (Some k) x.secret;
           new = new s claim ∙ x.new;
           right = rw (w.key k s (claims_names claim), ← image) at x.right;
         })
@@ -101,19 +99,19 @@ module _ (a b : Book) (m : List ℕ) where
     pub keyed_depends : keyed_of a m ≡ keyed_of b m
     keyed_depends = sym (end_key b m (keyed_of a m) (same (keyed_of a m) (key_end a m)))
       where
-        same : (v : Keyed) → KeyEnd a m v → KeyEnd b m v
+        same : (v : Result ℕ Refusal) → KeyEnd a m v → KeyEnd b m v
         same v (key_unsound h) = key_unsound (unsound_too a b w h)
         same v (key_refused s e) = key_refused (sound_too a b w s) e
-        same v (key_unknown id s e f) = key_unknown id (sound_too a b w s) e (row_too a b w id none f)
+        same v (key_unknown id s e f) = key_unknown id (sound_too a b w s) e (row_too a b w id None f)
         same v (key_names {k} s n) =
-            key_names (sound_too a b w s) (record { id = n.id; form = n.form; secret = row_too a b w n.id (some k) n.secret })
+            key_names (sound_too a b w s) (record { id = n.id; form = n.form; secret = row_too a b w n.id (Some k) n.secret })
 
     pub key_bytes_depend : ((k : ℕ) → Sound a → Names a m k → key_of a k ≡ key_of b k) → key_bytes a (keyed_of a m) ≡ key_bytes b (keyed_of b m)
     key_bytes_depend same = on (keyed_of a m) (key_end a m) ∙ ap (key_bytes b) keyed_depends
       where
-        on : (v : Keyed) → KeyEnd a m v → key_bytes a v ≡ key_bytes b v
-        on (NoKey r) x = refl
-        on (Row k) (key_names s n) = same k s n
+        on : (v : Result ℕ Refusal) → KeyEnd a m v → key_bytes a v ≡ key_bytes b v
+        on (Err r) x = refl
+        on (Ok k) (key_names s n) = same k s n
 
 -- ---- seal
 
@@ -124,22 +122,22 @@ module _ (a b : Book) (id : ℕ) (m : List ℕ) where
       same : (o : Outcome) → SealEnd a id m o → SealEnd b id m o
       same o (seal_unsound h) = seal_unsound (unsound_too a b w.secrets h)
       same o (seal_refused s e) = seal_refused (sound_too a b w.secrets s) e
-      same o (seal_unknown x s e f) = seal_unknown x (sound_too a b w.secrets s) e (row_too a b w.secrets id none f)
+      same o (seal_unknown x s e f) = seal_unknown x (sound_too a b w.secrets s) e (row_too a b w.secrets id None f)
       same o (seal_spent x k s e f h) =
-          seal_spent x k (sound_too a b w.secrets s) e (row_too a b w.secrets id (some k) f) (sym (w.sent k s f) ∙ h)
+          seal_spent x k (sound_too a b w.secrets s) e (row_too a b w.secrets id (Some k) f) (sym (w.sent k s f) ∙ h)
       same o (seal_seals {k} s x) =
           let sent = w.sent k s x.secret in
           seal_seals (sound_too a b w.secrets s) (record {
             auth = x.auth;
             form = x.form;
-            secret = row_too a b w.secrets id (some k) x.secret;
+            secret = row_too a b w.secrets id (Some k) x.secret;
             unspent = rw sent at x.unspent;
             next = rw sent at x.next;
             message = rw (w.key k s x.secret) at x.message;
           })
 
 -- the message with other bytes in the places that a seal writes is sealed to the same bytes
-module _ (b : Book) (id : ℕ) (m : List ℕ) (a : Auth) (other : List ℕ) (form : form_of m ≡ Full a) (size : length other ≡ seal_size) where
+module _ (b : Book) (id : ℕ) (m : List ℕ) (a : Auth) (other : List ℕ) (form : form_of m ≡ Ok a) (size : length other ≡ seal_size) where
   pub fields_depend : seal_of b id (sealed_with a other m) ≡ seal_of b id m
   fields_depend = end_seal b id (sealed_with a other m) (seal_of b id m) (same (seal_of b id m) (seal_end b id m))
     where
@@ -169,7 +167,7 @@ module _ (b : Book) (id : ℕ) (m : List ℕ) (a : Auth) (other : List ℕ) (for
 -- ---- the rows in use
 
 module _ (a b : Book) (w : SameInUse a b) where
-  used : (id k : ℕ) → row_of a id ≡ some k → k < a.rows
+  used : (id k : ℕ) → row_of a id ≡ Some k → k < a.rows
   used id k e = ((row_says.row a id k).0 e).used
 
   secrets : SameSecrets a b

@@ -5,23 +5,24 @@
 -- file goes between its indices and the lists of steps.
 use mathlib.Core.Path.{◌≡◌, refl, sym, ap, ◌∙◌}
 use mathlib.Core.Logic.{◌≢◌, inl, inr}
-use mathlib.Core.Option.{Option, none, some, discrete}
 use mathlib.Core.List.{List, [], ◌∷◌}
 use mathlib.Core.HLevel.{Discrete}
+use Rattle.std.proofs.lemmas.Option.{none-some, same_Some}
 use Prim.Native.Nat.{ℕ, zero, suc, ◌≤◌, ◌<◌}
 use native.Mathlib.Decide.{ℕ_discrete, dec_le}
 use native.Mathlib.Omega.{arith}
-use lib.ListN.{length, get_elem?}
+use lib.ListN.{length}
 use Rattle.demands.proofs.Channel
 use Rattle.demands.proofs.Channel.{search_below}
+use Rattle.std.specs.Prelude.{None, Option, Some, slice_get}
 
 module _ {A : Type 0} where
-  pub some_at : (l : List A) (i : ℕ) → i < length l → (a : A) × (get_elem? l i ≡ some a)
+  pub some_at : (l : List A) (i : ℕ) → i < length l → (a : A) × (slice_get l i ≡ Some a)
   some_at [] i h = absurd (omega arith)
   some_at (x ∷ l) zero h = (x, refl)
   some_at (x ∷ l) (suc i) h = some_at l i (omega arith)
 
-  pub lt_at : (l : List A) (i : ℕ) (a : A) → get_elem? l i ≡ some a → i < length l
+  pub lt_at : (l : List A) (i : ℕ) (a : A) → slice_get l i ≡ Some a → i < length l
   lt_at [] i a e = let z : ◌≡◌ {A = ℕ} 0 1 = cc in omega arith
   lt_at (x ∷ l) zero a e = omega arith
   lt_at (x ∷ l) (suc i) a e = omega (arith, lt_at l i a e)
@@ -41,8 +42,8 @@ pub record Walk {State Step Answer : Type 0} (answer_of : State → Step → Ans
   pub state_at_next : (b : State) (s : Step) (l : List Step) (i : ℕ) → state_at b (s ∷ l) (suc i) ≡ state_at (after b s) l i
 
 module _ {State Step Answer : Type 0} {answer_of : State → Step → Answer} {after : State → Step → State} (run : Walk answer_of after) where
-  pub answer_at : (b : State) (l : List Step) (i : ℕ) (s : Step) → get_elem? l i ≡ some s
-      → get_elem? (run.answers b l) i ≡ some (answer_of (run.state_at b l i) s)
+  pub answer_at : (b : State) (l : List Step) (i : ℕ) (s : Step) → slice_get l i ≡ Some s
+      → slice_get (run.answers b l) i ≡ Some (answer_of (run.state_at b l i) s)
   answer_at b [] i s e = cc
   answer_at b (x ∷ l) zero s e = rw (run.answers_next b x l, run.state_at_first b x l) cc
   answer_at b (x ∷ l) (suc i) s e = rw (run.answers_next b x l, run.state_at_next b x l i) (answer_at (after b x) l i s e)
@@ -51,7 +52,7 @@ module _ {State Step Answer : Type 0} {answer_of : State → Step → Answer} {a
   state_at_zero b [] = run.state_at_none b 0
   state_at_zero b (x ∷ l) = run.state_at_first b x l
 
-  pub next_at : (b : State) (l : List Step) (i : ℕ) (s : Step) → get_elem? l i ≡ some s → run.state_at b l (suc i) ≡ after (run.state_at b l i) s
+  pub next_at : (b : State) (l : List Step) (i : ℕ) (s : Step) → slice_get l i ≡ Some s → run.state_at b l (suc i) ≡ after (run.state_at b l i) s
   next_at b [] i s e = cc
   next_at b (x ∷ l) zero s e = rw (run.state_at_next b x l 0, run.state_at_first b x l, state_at_zero (after b x) l) cc
   next_at b (x ∷ l) (suc i) s e = rw (run.state_at_next b x l (suc i), run.state_at_next b x l i) (next_at (after b x) l i s e)
@@ -73,7 +74,7 @@ module _ {State Step Answer : Type 0} {answer_of : State → Step → Answer} {a
 
   -- what no step from i to j breaks
   pub kept_on : (P : State → Type 0) (b : State) (l : List Step) (i j : ℕ) → i ≤ j → j ≤ length l
-      → ((p : ℕ) (s : Step) → i ≤ p → p < j → get_elem? l p ≡ some s → P (run.state_at b l p) → P (after (run.state_at b l p) s))
+      → ((p : ℕ) (s : Step) → i ≤ p → p < j → slice_get l p ≡ Some s → P (run.state_at b l p) → P (after (run.state_at b l p) s))
       → P (run.state_at b l i) → P (run.state_at b l j)
   kept_on P b l i zero q m h g = let e : i ≡ 0 = omega arith in rw (← e) g
   kept_on P b l i (suc j) q m h g =
@@ -89,8 +90,14 @@ module _ {State Step Answer : Type 0} {answer_of : State → Step → Answer} {a
 
 module _ {Step Ch : Type 0} (channel : Step → Option Ch) where
   abbrev pub channel_at : Option Step → Option Ch
-  channel_at none = none
-  channel_at (some s) = channel s
+  channel_at None = None
+  channel_at (Some s) = channel s
+
+-- whether a channel is this one
+this_one : {Ch : Type 0} → Discrete Ch → (o : Option Ch) (c : Ch) → Dec (o ≡ Some c)
+this_one same? None c = no (λ e. none-some c e)
+this_one same? (Some d) c =
+    elim (same? d c) [ yes e ↦ yes (ap Some e) | no n ↦ no (λ e. n (same_Some d c e)) ]
 
 -- What is asked of the steps: `holds c b` is what channel c holds in the state b, `Inv` holds of every state of a run, and `Alike s t` says
 -- that t is s but for what no step looks at.
@@ -100,11 +107,11 @@ pub record Local
     : Type 0
   where
     pub kept : (b : State) (s : Step) → Inv b → Inv (after b s)
-    pub other : (b : State) (s : Step) (c : Ch) → Inv b → channel s ≢ some c → holds c (after b s) ≡ holds c b
+    pub other : (b : State) (s : Step) (c : Ch) → Inv b → channel s ≢ Some c → holds c (after b s) ≡ holds c b
     pub channel_alike : (s t : Step) → Alike s t → channel s ≡ channel t
-    pub answer : (s t : Step) → Alike s t → (a b : State) → Inv a → Inv b → ((c : Ch) → channel s ≡ some c → holds c a ≡ holds c b)
+    pub answer : (s t : Step) → Alike s t → (a b : State) → Inv a → Inv b → ((c : Ch) → channel s ≡ Some c → holds c a ≡ holds c b)
         → answer_of a s ≡ answer_of b t
-    pub change : (s t : Step) → Alike s t → (c : Ch) → channel s ≡ some c → (a b : State) → Inv a → Inv b → holds c a ≡ holds c b
+    pub change : (s t : Step) → Alike s t → (c : Ch) → channel s ≡ Some c → (a b : State) → Inv a → Inv b → holds c a ≡ holds c b
         → holds c (after a s) ≡ holds c (after b t)
 
 module _
@@ -112,11 +119,11 @@ module _
     {channel : Step → Option Ch} {holds : (c : Ch) → State → C c} {Inv : State → Type 0} {Alike : Step → Step → Type 0}
     (run : Walk answer_of after) (local : Local answer_of after channel holds Inv Alike) (same? : Discrete Ch)
     (a b : State) (good-a : Inv a) (good-b : Inv b) (first second : List Step) (place : ℕ → ℕ)
-    (carried : (i : ℕ) (s : Step) → get_elem? first i ≡ some s → (t : Step) × (get_elem? second (place i) ≡ some t) × Alike s t)
-    (order : (i j : ℕ) (s t : Step) (c : Ch) → get_elem? first i ≡ some s → get_elem? first j ≡ some t → channel s ≡ some c → channel t ≡ some c
+    (carried : (i : ℕ) (s : Step) → slice_get first i ≡ Some s → (t : Step) × (slice_get second (place i) ≡ Some t) × Alike s t)
+    (order : (i j : ℕ) (s t : Step) (c : Ch) → slice_get first i ≡ Some s → slice_get first j ≡ Some t → channel s ≡ Some c → channel t ≡ Some c
     → i < j → place i < place j)
     (put_in : (p : ℕ) → p < length second → ((i : ℕ) → i < length first → place i ≢ p)
-    → (t : Step) × (get_elem? second p ≡ some t) × ((c : Ch) → holds c (after (run.state_at b second p) t) ≡ holds c (run.state_at b second p)))
+    → (t : Step) × (slice_get second p ≡ Some t) × ((c : Ch) → holds c (after (run.state_at b second p) t) ≡ holds c (run.state_at b second p)))
   where
     good₁ : (i : ℕ) → Inv (run.state_at a first i)
     good₁ i = inv_at run Inv local.kept a first i good-a
@@ -126,11 +133,11 @@ module _
 
     module _ (c : Ch) (start : holds c a ≡ holds c b) where
       On : ℕ → Type 0
-      On i = channel_at channel (get_elem? first i) ≡ some c
+      On i = channel_at channel (slice_get first i) ≡ Some c
 
       on? : (i : ℕ) → Dec (On i)
       unfolding On
-      on? i = discrete same? (channel_at channel (get_elem? first i)) (some c)
+      on? i = this_one same? (channel_at channel (slice_get first i)) c
 
       fst : ℕ → C c
       fst i = holds c (run.state_at a first i)
@@ -193,10 +200,10 @@ module _
           (sym (Channel.ends (length first) (length second) place On on? fst snd inside in_order begins off₁ off₂ on))
 
     -- a step of the first run whose channel, where it has one, holds the same at both starts
-    pub same_answer : (i : ℕ) (s : Step) → get_elem? first i ≡ some s → ((c : Ch) → channel s ≡ some c → holds c a ≡ holds c b)
-        → get_elem? (run.answers b second) (place i) ≡ get_elem? (run.answers a first) i
+    pub same_answer : (i : ℕ) (s : Step) → slice_get first i ≡ Some s → ((c : Ch) → channel s ≡ Some c → holds c a ≡ holds c b)
+        → slice_get (run.answers b second) (place i) ≡ slice_get (run.answers a first) i
     unfolding On
     same_answer i s e starts =
         let t = carried i s e in
         rw (answer_at run a first i s e, answer_at run b second (place i) t.0 t.1)
-        (ap some (sym (local.answer s t.0 t.2 _ _ (good₁ i) (good₂ (place i)) (λ c g. held c (starts c g) i (lt_at first i s e) (rw e g)))))
+        (ap Some (sym (local.answer s t.0 t.2 _ _ (good₁ i) (good₂ (place i)) (λ c g. held c (starts c g) i (lt_at first i s e) (rw e g)))))

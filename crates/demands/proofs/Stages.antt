@@ -4,7 +4,6 @@ use mathlib.Core.Path.{◌≡◌, refl, sym, ◌∙◌}
 use mathlib.Core.Logic.{◌≢◌}
 use mathlib.Core.Bool.{Bool, true, false}
 use mathlib.Core.List.{List, ◌++◌}
-use mathlib.Core.Option.{none, some}
 use Prim.Native.Nat.{ℕ, ◌+◌}
 use lib.ListN.{get_or}
 use Rattle.refusal.specs.declared.Refusal.{Refusal}
@@ -16,14 +15,8 @@ use Rattle.dhcp_message.specs.Said.{Said, refused, says, said_of, named, form_of
 use Rattle.dhcp_message.specs.Image.{image_of}
 use Rattle.dhcp_message.specs.Seal.{fields, sealed_with}
 use Rattle.dhcp_message.specs.declared.Auth.{Auth}
-use Rattle.dhcp_message.specs.declared.Form.{Form}
-use Rattle.dhcp_message.specs.declared.Form.TheVariants.{Refused as FormRefused, Full}
 use Rattle.key_book.specs.Book.{Book, Sound, sound, row_of, key_of}
 use Rattle.key_book.proofs.Says.{sound_says}
-use Rattle.delayed_auth.specs.declared.Verdict.{Verdict}
-use Rattle.delayed_auth.specs.declared.Verdict.TheVariants.{Accepted, Refused}
-use Rattle.delayed_auth.specs.declared.Keyed.{Keyed}
-use Rattle.delayed_auth.specs.declared.Keyed.TheVariants.{Row, NoKey}
 use Rattle.delayed_auth.specs.Admit.{admitted_said, admitted_form}
 use Rattle.delayed_auth.specs.Key.{keyed_of}
 use Rattle.delayed_auth.specs.Check.{new_to, check_of}
@@ -36,6 +29,9 @@ use Rattle.delayed_auth.proofs.Writers.{sealed_message_lem}
 use Rattle.demands.specs.Accepts.{Accepts, Names}
 use Rattle.demands.specs.Demand1.{Claims}
 use Rattle.demands.proofs.Below.{never, said_form, named_says}
+use Rattle.std.specs.Prelude.{Err, None, Ok, Result, Some, ℕ}
+use Rattle.delayed_auth.specs.declared.Accepted.{Accepted}
+use Rattle.delayed_auth.specs.Check.{accepting}
 
 -- ---- 1 to 9: what a message says, and its form, on a sound book and on one that is not
 
@@ -63,35 +59,35 @@ module _ (b : Book) where
         on : SaidCase b m (says c id mac) → Sound b × (said_of m ≡ says c id mac)
         on (sound_book s f) = ((sound_says b).0 s, f)
 
-    tell_form : (f : Form) → Sound b → form_of m ≡ f → f ≡ admitted_form b m
+    tell_form : (f : Result Auth Refusal) → Sound b → form_of m ≡ f → f ≡ admitted_form b m
     tell_form f s e = case_form b m f (sound_book ((sound_says b).1 s) e)
 
-    told_form : (a : Auth) → Full a ≡ admitted_form b m → Sound b × (form_of m ≡ Full a)
-    told_form a e = on (form_case b m (Full a) e)
+    told_form : (a : Auth) → Ok a ≡ admitted_form b m → Sound b × (form_of m ≡ Ok a)
+    told_form a e = on (form_case b m (Ok a) e)
       where
-        on : FormCase b m (Full a) → Sound b × (form_of m ≡ Full a)
+        on : FormCase b m (Ok a) → Sound b × (form_of m ≡ Ok a)
         on (sound_book s f) = ((sound_says b).0 s, f)
 
 -- ---- a check
 
-pub data CheckEnd (b : Book) (m : List ℕ) : Verdict → Type 0 where
-  check_unsound : (Sound b → ⊥) → CheckEnd b m (Refused UnsoundBook)
-  check_refused : {r : Refusal} → Sound b → said_of m ≡ refused r → CheckEnd b m (Refused r)
-  check_unknown : (c id : ℕ) (mac : List ℕ) → Sound b → said_of m ≡ says c id mac → row_of b id ≡ none → CheckEnd b m (Refused UnknownSecret)
-  check_replay : (c k : ℕ) (mac : List ℕ) → Sound b → Claims b m c k mac → new_to b k c ≡ false → CheckEnd b m (Refused Replay)
+pub data CheckEnd (b : Book) (m : List ℕ) : Result Accepted Refusal → Type 0 where
+  check_unsound : (Sound b → ⊥) → CheckEnd b m (Err UnsoundBook)
+  check_refused : {r : Refusal} → Sound b → said_of m ≡ refused r → CheckEnd b m (Err r)
+  check_unknown : (c id : ℕ) (mac : List ℕ) → Sound b → said_of m ≡ says c id mac → row_of b id ≡ None → CheckEnd b m (Err UnknownSecret)
+  check_replay : (c k : ℕ) (mac : List ℕ) → Sound b → Claims b m c k mac → new_to b k c ≡ false → CheckEnd b m (Err Replay)
   check_wrong : (c k : ℕ) (mac : List ℕ) → Sound b → Claims b m c k mac → new_to b k c ≡ true → mac ≢ hmac (key_of b k) (image_of m)
-      → CheckEnd b m (Refused WrongMac)
-  check_accepts : {k c : ℕ} → Sound b → Accepts b m k c → CheckEnd b m (Accepted k c)
+      → CheckEnd b m (Err WrongMac)
+  check_accepts : {k c : ℕ} → Sound b → Accepts b m k c → CheckEnd b m (accepting k c)
 
 module _ (b : Book) (m : List ℕ) where
   pub check_end : CheckEnd b m (check_of b m)
   check_end = on (check_of b m) (judging.check_case b m)
     where
-      early : (r : Refusal) → SaidCase b m (refused r) → CheckEnd b m (Refused r)
+      early : (r : Refusal) → SaidCase b m (refused r) → CheckEnd b m (Err r)
       early r (unsound_book s) = check_unsound (not_sound b s)
       early r (sound_book s e) = check_refused ((sound_says b).0 s) e
 
-      on : (v : Verdict) → judging.CheckCase b m v → CheckEnd b m v
+      on : (v : Result Accepted Refusal) → judging.CheckCase b m v → CheckEnd b m v
       on v (judging.check_refused {r} e) = early r (said_case b m (refused r) e)
       on v (judging.check_unknown {c} {id} {mac} e f) = let w = told b m c id mac e in check_unknown c id mac w.0 w.1 f
       on v (judging.check_replay {c} {id} {k} {mac} e f h) =
@@ -104,10 +100,10 @@ module _ (b : Book) (m : List ℕ) where
           let w = told b m c id mac e in
           check_accepts w.0 (record { id = id; mac = mac; form = w.1; secret = f; new = h; right = g })
 
-  pub end_check : (v : Verdict) → CheckEnd b m v → check_of b m ≡ v
+  pub end_check : (v : Result Accepted Refusal) → CheckEnd b m v → check_of b m ≡ v
   end_check v e = sym (judging.case_check b m v (on v e))
     where
-      on : (v : Verdict) → CheckEnd b m v → judging.CheckCase b m v
+      on : (v : Result Accepted Refusal) → CheckEnd b m v → judging.CheckCase b m v
       on v (check_unsound h) = judging.check_refused (tell_unsound b m h)
       on v (check_refused {r} s e) = judging.check_refused (tell b m (refused r) s e)
       on v (check_unknown c id mac s e f) = judging.check_unknown (tell b m (says c id mac) s e) f
@@ -115,10 +111,10 @@ module _ (b : Book) (m : List ℕ) where
       on v (check_wrong c k mac s w h g) = judging.check_wrong (tell b m (says c w.id mac) s w.form) w.secret h g
       on v (check_accepts {k} {c} s a) = judging.check_accepts (tell b m (says c a.id a.mac) s a.form) a.secret a.new a.right
 
-  pub accepted_accepts : (k c : ℕ) → check_of b m ≡ Accepted k c → Accepts b m k c
+  pub accepted_accepts : (k c : ℕ) → check_of b m ≡ accepting k c → Accepts b m k c
   accepted_accepts k c e = on (rw e at check_end)
     where
-      on : CheckEnd b m (Accepted k c) → Accepts b m k c
+      on : CheckEnd b m (accepting k c) → Accepts b m k c
       on (check_accepts s a) = a
 
 -- what is accepted is claimed, and a message that claims a counter and a MAC at a row names its secret
@@ -130,21 +126,21 @@ claims_names {m = m} {c = c} {mac = mac} w = record { id = w.id; form = (said_fo
 
 -- ---- the key of a message
 
-pub data KeyEnd (b : Book) (m : List ℕ) : Keyed → Type 0 where
-  key_unsound : (Sound b → ⊥) → KeyEnd b m (NoKey UnsoundBook)
-  key_refused : {r : Refusal} → Sound b → said_of m ≡ refused r → KeyEnd b m (NoKey r)
-  key_unknown : (id : ℕ) → Sound b → named m ≡ some id → row_of b id ≡ none → KeyEnd b m (NoKey UnknownSecret)
-  key_names : {k : ℕ} → Sound b → Names b m k → KeyEnd b m (Row k)
+pub data KeyEnd (b : Book) (m : List ℕ) : Result ℕ Refusal → Type 0 where
+  key_unsound : (Sound b → ⊥) → KeyEnd b m (Err UnsoundBook)
+  key_refused : {r : Refusal} → Sound b → said_of m ≡ refused r → KeyEnd b m (Err r)
+  key_unknown : (id : ℕ) → Sound b → named m ≡ Some id → row_of b id ≡ None → KeyEnd b m (Err UnknownSecret)
+  key_names : {k : ℕ} → Sound b → Names b m k → KeyEnd b m (Ok k)
 
 module _ (b : Book) (m : List ℕ) where
   pub key_end : KeyEnd b m (keyed_of b m)
   key_end = on (keyed_of b m) (naming.key_case b m)
     where
-      early : (r : Refusal) → SaidCase b m (refused r) → KeyEnd b m (NoKey r)
+      early : (r : Refusal) → SaidCase b m (refused r) → KeyEnd b m (Err r)
       early r (unsound_book s) = key_unsound (not_sound b s)
       early r (sound_book s e) = key_refused ((sound_says b).0 s) e
 
-      on : (v : Keyed) → naming.KeyCase b m v → KeyEnd b m v
+      on : (v : Result ℕ Refusal) → naming.KeyCase b m v → KeyEnd b m v
       on v (naming.key_refused {r} e) = early r (said_case b m (refused r) e)
       on v (naming.key_unknown {c} {id} {mac} e f) =
           let w = told b m c id mac e in
@@ -153,19 +149,19 @@ module _ (b : Book) (m : List ℕ) where
           let w = told b m c id mac e in
           key_names w.0 (record { id = id; form = (said_form m (says c id mac) w.1).name; secret = f })
 
-  pub end_key : (v : Keyed) → KeyEnd b m v → keyed_of b m ≡ v
+  pub end_key : (v : Result ℕ Refusal) → KeyEnd b m v → keyed_of b m ≡ v
   end_key v e = sym (naming.case_key b m v (on v e))
     where
-      on : (v : Keyed) → KeyEnd b m v → naming.KeyCase b m v
+      on : (v : Result ℕ Refusal) → KeyEnd b m v → naming.KeyCase b m v
       on v (key_unsound h) = naming.key_refused (tell_unsound b m h)
       on v (key_refused {r} s e) = naming.key_refused (tell b m (refused r) s e)
       on v (key_unknown id s e f) = let w = named_says m id e in naming.key_unknown (tell b m (says w.0 id w.1) s w.2) f
       on v (key_names s n) = let w = named_says m n.id n.form in naming.key_row (tell b m (says w.0 n.id w.1) s w.2) n.secret
 
-  pub keyed_names : (k : ℕ) → keyed_of b m ≡ Row k → Names b m k
+  pub keyed_names : (k : ℕ) → keyed_of b m ≡ Ok k → Names b m k
   keyed_names k e = on (rw e at key_end)
     where
-      on : KeyEnd b m (Row k) → Names b m k
+      on : KeyEnd b m (Ok k) → Names b m k
       on (key_names s w) = w
 
 -- ---- a seal
@@ -173,8 +169,8 @@ module _ (b : Book) (m : List ℕ) where
 -- what a sealing says of each stage
 pub record SealedBy (b : Book) (id : ℕ) (m : List ℕ) (k c : ℕ) (n : List ℕ) : Type 0 where
   pub auth : Auth
-  pub form : form_of m ≡ Full auth
-  pub secret : row_of b id ≡ some k
+  pub form : form_of m ≡ Ok auth
+  pub secret : row_of b id ≡ Some k
   pub unspent : get_or b.sent k 0 ≢ counter_most
   pub next : c ≡ get_or b.sent k 0 + 1
   -- the MAC is that of the image with counter and id written, and zeros in the MAC's place
@@ -182,9 +178,9 @@ pub record SealedBy (b : Book) (id : ℕ) (m : List ℕ) (k c : ℕ) (n : List �
 
 pub data SealEnd (b : Book) (id : ℕ) (m : List ℕ) : Outcome → Type 0 where
   seal_unsound : (Sound b → ⊥) → SealEnd b id m (unsealed UnsoundBook)
-  seal_refused : {r : Refusal} → Sound b → form_of m ≡ FormRefused r → SealEnd b id m (unsealed r)
-  seal_unknown : (a : Auth) → Sound b → form_of m ≡ Full a → row_of b id ≡ none → SealEnd b id m (unsealed UnknownSecret)
-  seal_spent : (a : Auth) (k : ℕ) → Sound b → form_of m ≡ Full a → row_of b id ≡ some k → get_or b.sent k 0 ≡ counter_most
+  seal_refused : {r : Refusal} → Sound b → form_of m ≡ Err r → SealEnd b id m (unsealed r)
+  seal_unknown : (a : Auth) → Sound b → form_of m ≡ Ok a → row_of b id ≡ None → SealEnd b id m (unsealed UnknownSecret)
+  seal_spent : (a : Auth) (k : ℕ) → Sound b → form_of m ≡ Ok a → row_of b id ≡ Some k → get_or b.sent k 0 ≡ counter_most
       → SealEnd b id m (unsealed CounterSpent)
   seal_seals : {k c : ℕ} {n : List ℕ} → Sound b → SealedBy b id m k c n → SealEnd b id m (sealed k c n)
 
@@ -192,12 +188,12 @@ module _ (b : Book) (id : ℕ) (m : List ℕ) where
   pub seal_end : SealEnd b id m (seal_of b id m)
   seal_end = rw (← (seal_planned b id m (plan_of b id m) refl)) (on (plan_of b id m) (plan_case b id m))
     where
-      early : (r : Refusal) → FormCase b m (FormRefused r) → SealEnd b id m (unsealed r)
+      early : (r : Refusal) → FormCase b m (Err r) → SealEnd b id m (unsealed r)
       early r (unsound_book s) = seal_unsound (not_sound b s)
       early r (sound_book s e) = seal_refused ((sound_says b).0 s) e
 
       on : (p : _) → PlanCase b id m p → SealEnd b id m (outcome_by b id m p)
-      on p (plan_refused {r} e) = early r (form_case b m (FormRefused r) e)
+      on p (plan_refused {r} e) = early r (form_case b m (Err r) e)
       on p (plan_unknown {a} e f) = let w = told_form b m a e in seal_unknown a w.0 w.1 f
       on p (plan_spent {a} {k} e f h) = let w = told_form b m a e in seal_spent a k w.0 w.1 f h
       on p (plan_ready {a} {k} e f h) =
@@ -209,11 +205,11 @@ module _ (b : Book) (id : ℕ) (m : List ℕ) where
 
   pub end_seal : (o : Outcome) → SealEnd b id m o → seal_of b id m ≡ o
   end_seal o (seal_unsound h) = planned (plan_refused (case_form b m _ (unsound_book (unsound b h))))
-  end_seal o (seal_refused {r} s e) = planned (plan_refused (tell_form b m (FormRefused r) s e))
-  end_seal o (seal_unknown a s e f) = planned (plan_unknown (tell_form b m (Full a) s e) f)
-  end_seal o (seal_spent a k s e f h) = planned (plan_spent (tell_form b m (Full a) s e) f h)
+  end_seal o (seal_refused {r} s e) = planned (plan_refused (tell_form b m (Err r) s e))
+  end_seal o (seal_unknown a s e f) = planned (plan_unknown (tell_form b m (Ok a) s e) f)
+  end_seal o (seal_spent a k s e f h) = planned (plan_spent (tell_form b m (Ok a) s e) f h)
   end_seal o (seal_seals {k} {c} {n} s w) =
-      planned (plan_ready (tell_form b m (Full w.auth) s w.form) w.secret w.unspent)
+      planned (plan_ready (tell_form b m (Ok w.auth) s w.form) w.secret w.unspent)
       ∙ rw (sealed_message_lem (key_of b k) m w.auth (get_or b.sent k 0 + 1) id, w.message, w.next)
 
   pub sealed_by : (k c : ℕ) (n : List ℕ) → seal_of b id m ≡ sealed k c n → SealedBy b id m k c n

@@ -7,7 +7,6 @@ use mathlib.Core.Path.{◌≡◌, refl, sym, ap, ◌∙◌}
 use mathlib.Core.Logic.{◌≢◌, inr}
 use mathlib.Core.Bool.{Bool, true, false}
 use mathlib.Core.List.{List}
-use mathlib.Core.Option.{some}
 use Prim.Native.Nat.{ℕ, ◌≤◌, ◌<◌}
 use native.Mathlib.Nat.{le_refl, le_of_lt}
 use native.Mathlib.Decide.{ℕ_discrete}
@@ -15,6 +14,8 @@ use native.Mathlib.Omega.{arith}
 use lib.Dec.{eqb}
 use lib.ListN.{length, get_or, take, length-set}
 use lib.Seq.{get_or-set_same, get_or-set_other}
+use Rattle.forcerenew.proofs.Cases.{heeding_parts}
+use Rattle.delayed_auth.proofs.Judging.{accepting_parts}
 use Rattle.refusal.specs.declared.Refusal.{Refusal}
 use Rattle.refusal.specs.declared.Refusal.TheVariants.{Replay}
 use Rattle.dhcp_message.specs.Said.{named}
@@ -25,13 +26,10 @@ use Rattle.dhcp_message.proofs.Replays.{above_new, old_counter, counter_old}
 use Rattle.key_book.specs.Limits.{heard}
 use Rattle.key_book.specs.Book.{Book, Sound, MarkFits, book_of, heard_at, row_of, key_of}
 use Rattle.key_book.proofs.Says.{sound_says, row_says, row_depends, rows_within}
-use Rattle.delayed_auth.specs.declared.Verdict.{Verdict}
-use Rattle.delayed_auth.specs.declared.Verdict.TheVariants.{Accepted, Refused}
 use Rattle.delayed_auth.specs.Check.{new_to, check_of, marks_after, received_after}
 use Rattle.delayed_auth.specs.Seal.{Outcome, sealed, unsealed, seal_of, sent_after}
 use Rattle.forcerenew.specs.Layout.{gives_nonce, orders_renewal}
 use Rattle.forcerenew.specs.Rows.{none_yet, Servers, SoundRows, sound_rows}
-use Rattle.forcerenew.specs.declared.Judged.TheVariants.{Accepted as Heeded}
 use Rattle.forcerenew.specs.Judging.{Judgement, takes, knows, renews, refused, judge_of, judged_of}
 use Rattle.forcerenew.proofs.Stored.{rows_kept_lem, room_kept, sound_kept, unsound_kept}
 use Rattle.forcerenew.proofs.Stored.{Heard, renews_heard, renews_above, heard_beside, heard_replays}
@@ -42,6 +40,10 @@ use Rattle.demands.proofs.Below.{never}
 use Rattle.demands.proofs.Stages.{check_replay, end_check, accepted_accepts, accepts_claims, claims_names}
 use Rattle.demands.proofs.Demand2.{demand_2}
 use Rattle.demands.proofs.Dependence.{check_same, seal_depends}
+use Rattle.std.specs.Prelude.{Err, Ok, Result, Some}
+use Rattle.delayed_auth.specs.declared.Accepted.{Accepted}
+use Rattle.delayed_auth.specs.Check.{accepting}
+use Rattle.forcerenew.specs.Judging.{heeding}
 
 -- ---- what a check leaves in a row
 
@@ -55,35 +57,35 @@ new_with x c = is_new (eqb x.0 heard) x.1 c
 
 -- by the answer: row k is as it was; or the message names its secret and is accepted with a counter that is new to it, and then the row is heard and
 -- has that counter
-pub data Hears (b : Book) (m : List ℕ) (k : ℕ) : Verdict → ℕ × ℕ → Type 0 where
-  refuses : {r : Refusal} → Hears b m k (Refused r) (hearing k b)
-  elsewhere : {j c : ℕ} → Names b m j → j ≢ k → Hears b m k (Accepted j c) (hearing k b)
-  here : {c : ℕ} → Names b m k → new_to b k c ≡ true → Hears b m k (Accepted k c) (heard, c)
+pub data Hears (b : Book) (m : List ℕ) (k : ℕ) : Result Accepted Refusal → ℕ × ℕ → Type 0 where
+  refuses : {r : Refusal} → Hears b m k (Err r) (hearing k b)
+  elsewhere : {j c : ℕ} → Names b m j → j ≢ k → Hears b m k (accepting j c) (hearing k b)
+  here : {c : ℕ} → Names b m k → new_to b k c ≡ true → Hears b m k (accepting k c) (heard, c)
 
 pub hears : (b : Book) → Sound b → (m : List ℕ) (k : ℕ) → Hears b m k (check_of b m) (hearing k (book_after b (check m)))
 hears b s m k = on (check_of b m) refl
   where
-    on : (v : Verdict) → check_of b m ≡ v → Hears b m k v (get_or (marks_after v b.marks) k 0, get_or (received_after v b.received) k 0)
-    on (Refused r) e = refuses
-    on (Accepted j c) e =
-        let a = accepted_accepts b m j c e in
+    on : (v : Result Accepted Refusal) → check_of b m ≡ v → Hears b m k v (get_or (marks_after v b.marks) k 0, get_or (received_after v b.received) k 0)
+    on (Err r) e = refuses
+    on (Ok got) e =
+        let a = accepted_accepts b m got.row got.counter e in
         let w = claims_names (accepts_claims a) in
-        elim (ℕ_discrete k j) [
-          | no g ↦ rw (get_or-set_other b.marks j k heard 0 g, get_or-set_other b.received j k c 0 g) (elsewhere w (λ h. g (sym h)))
+        elim (ℕ_discrete k got.row) [
+          | no g ↦ rw (get_or-set_other b.marks got.row k heard 0 g, get_or-set_other b.received got.row k got.counter 0 g) (elsewhere w (λ h. g (sym h)))
           | yes g ↦
-              let l = rows_within b s j ((row_says.row b a.id j).0 a.secret).used in
-              rw (g, get_or-set_same b.marks j heard 0 l.in_marks, get_or-set_same b.received j c 0 l.in_received) (here w a.new)
+              let l = rows_within b s got.row ((row_says.row b a.id got.row).0 a.secret).used in
+              rw (g, get_or-set_same b.marks got.row heard 0 l.in_marks, get_or-set_same b.received got.row got.counter 0 l.in_received) (here w a.new)
         ]
 
 -- ---- a step leaves a sound book sound
 
-marks_size : (v : Verdict) (xs : List ℕ) → length (marks_after v xs) ≡ length xs
-marks_size (Accepted k c) xs = length-set xs k heard
-marks_size (Refused r) xs = refl
+marks_size : (v : Result Accepted Refusal) (xs : List ℕ) → length (marks_after v xs) ≡ length xs
+marks_size (Ok a) xs = length-set xs a.row heard
+marks_size (Err r) xs = refl
 
-received_size : (v : Verdict) (xs : List ℕ) → length (received_after v xs) ≡ length xs
-received_size (Accepted k c) xs = length-set xs k c
-received_size (Refused r) xs = refl
+received_size : (v : Result Accepted Refusal) (xs : List ℕ) → length (received_after v xs) ≡ length xs
+received_size (Ok a) xs = length-set xs a.row a.counter
+received_size (Err r) xs = refl
 
 sent_size : (o : Outcome) (xs : List ℕ) → length (sent_after o xs) ≡ length xs
 sent_size (sealed k c n) xs = length-set xs k c
@@ -113,7 +115,7 @@ counters_sound b marks received sent e f g fit s =
     }
 
 -- a check leaves marks that fit: a row that is heard may have any counter
-hears_fits : (b : Book) → Sound b → (m : List ℕ) (k : ℕ) → k < b.rows → {v : Verdict} {x : ℕ × ℕ} → Hears b m k v x → MarkFits x.0 x.1
+hears_fits : (b : Book) → Sound b → (m : List ℕ) (k : ℕ) → k < b.rows → {v : Result Accepted Refusal} {x : ℕ × ℕ} → Hears b m k v x → MarkFits x.0 x.1
 hears_fits b s m k l refuses = s.marks_fit_lem k l
 hears_fits b s m k l (elsewhere w n) = s.marks_fit_lem k l
 hears_fits b s m k l (here w new) = record { known = inr refl; fresh = λ z. absurd (omega arith) }
@@ -155,7 +157,7 @@ step_keeps a b (seal id m) h = record { is_sound = step_sound b h.is_sound (seal
 step_keeps a b (judge k m) h = h
 
 -- an id has one row
-pub single : (b : Book) (i j k : ℕ) → row_of b i ≡ some k → row_of b j ≡ some k → i ≡ j
+pub single : (b : Book) (i j k : ℕ) → row_of b i ≡ Some k → row_of b j ≡ Some k → i ≡ j
 single b i j k e f = sym ((row_says.row b i k).0 e).named ∙ ((row_says.row b j k).0 f).named
 
 -- a relay change is not seen
@@ -173,7 +175,7 @@ module _ (b₀ a b : Book) (v : SameIds b₀ a) (w : SameIds b₀ b) where
   secrets : SameSecrets a b
   secrets = record { soundness = (sound_says a).1 v.is_sound ∙ sym ((sound_says b).1 w.is_sound); ids = v.ids ∙ sym w.ids }
 
-  pub check_reads : (m n : List ℕ) → Relayed m n → ((id k : ℕ) → named m ≡ some id → row_of b₀ id ≡ some k → received_row k a ≡ received_row k b)
+  pub check_reads : (m n : List ℕ) → Relayed m n → ((id k : ℕ) → named m ≡ Some id → row_of b₀ id ≡ Some k → received_row k a ≡ received_row k b)
       → check_of b n ≡ check_of a m
   check_reads m n q h = check_same a b m n (record {
     secrets = secrets;
@@ -185,35 +187,35 @@ module _ (b₀ a b : Book) (v : SameIds b₀ a) (w : SameIds b₀ b) where
       at : (k : ℕ) → Names a m k → received_row k a ≡ received_row k b
       at k n = h n.id k n.form (sym (row_kept b₀ a v n.id) ∙ n.secret)
 
-  pub seal_reads : (id : ℕ) (m : List ℕ) → ((k : ℕ) → row_of b₀ id ≡ some k → sent_row k a ≡ sent_row k b) → seal_of a id m ≡ seal_of b id m
+  pub seal_reads : (id : ℕ) (m : List ℕ) → ((k : ℕ) → row_of b₀ id ≡ Some k → sent_row k a ≡ sent_row k b) → seal_of a id m ≡ seal_of b id m
   seal_reads id m h = seal_depends a b id m (record {
     secrets = secrets;
     key = λ k s e i. (at k e i).0;
     sent = λ k s e i. (at k e i).1;
   })
     where
-      at : (k : ℕ) → row_of a id ≡ some k → sent_row k a ≡ sent_row k b
+      at : (k : ℕ) → row_of a id ≡ Some k → sent_row k a ≡ sent_row k b
       at k e = h k (sym (row_kept b₀ a v id) ∙ e)
 
 -- ---- replays
 
 -- an accepted message is a replay where its counter is not new to the row
-pub replays : (b₀ a b : Book) (m : List ℕ) (k c : ℕ) → SameIds b₀ a → SameIds b₀ b → check_of a m ≡ Accepted k c → new_to b k c ≡ false
-    → check_of b m ≡ Refused Replay
+pub replays : (b₀ a b : Book) (m : List ℕ) (k c : ℕ) → SameIds b₀ a → SameIds b₀ b → check_of a m ≡ accepting k c → new_to b k c ≡ false
+    → check_of b m ≡ Err Replay
 replays b₀ a b m k c v w e h =
     let x = accepted_accepts a m k c e in
     let row = row_kept b₀ b w x.id ∙ sym (row_kept b₀ a v x.id) ∙ x.secret in
     end_check b m _ (check_replay c k x.mac w.is_sound (record { id = x.id; form = x.form; secret = row }) h)
 
 -- no counter up to an accepted one is new to the row afterwards
-pub old_then : (b : Book) (m : List ℕ) (k c d : ℕ) → Sound b → check_of b m ≡ Accepted k c → d ≤ c → new_to (book_after b (check m)) k d ≡ false
+pub old_then : (b : Book) (m : List ℕ) (k c d : ℕ) → Sound b → check_of b m ≡ accepting k c → d ≤ c → new_to (book_after b (check m)) k d ≡ false
 old_then b m k c d s e l = on (hears b s m k) e
   where
-    on : {v : Verdict} {x : ℕ × ℕ} → Hears b m k v x → v ≡ Accepted k c → new_with x d ≡ false
+    on : {v : Result Accepted Refusal} {x : ℕ × ℕ} → Hears b m k v x → v ≡ accepting k c → new_with x d ≡ false
     on refuses a = cc
-    on (elsewhere w n) a = absurd (n cc)
+    on (elsewhere w n) a = absurd (n (accepting_parts a).0)
     on (here {c = e} w new) a =
-        let q : e ≡ c = cc in
+        let q = (accepting_parts a).1 in
         counter_old e d (omega arith)
 
 -- a counter that is not new to a row is not new to it after any step: the row was heard, so it has a larger counter now or is as it was
@@ -222,7 +224,7 @@ stays_old b (seal id m) k c h old = old
 stays_old b (judge j m) k c h old = old
 stays_old b (check m) k c h old = on (hears b h m k)
   where
-    on : {v : Verdict} {x : ℕ × ℕ} → Hears b m k v x → new_with x c ≡ false
+    on : {v : Result Accepted Refusal} {x : ℕ × ℕ} → Hears b m k v x → new_with x c ≡ false
     on refuses = old
     on (elsewhere w n) = old
     on (here {c = d} w new) =
@@ -233,9 +235,9 @@ stays_old b (check m) k c h old = on (hears b h m k)
 pub not_accepted : (b : Book) (m : List ℕ) → Sound b → ((k c : ℕ) → Accepts b m k c → ⊥) → book_after b (check m) ≡ b
 not_accepted b m s h = on (check_of b m) refl
   where
-    on : (v : Verdict) → check_of b m ≡ v → book_after b (check m) ≡ b
-    on (Accepted k c) e = absurd (h k c ((demand_2.accepted b s m k c).0 e))
-    on (Refused r) e = rw e
+    on : (v : Result Accepted Refusal) → check_of b m ≡ v → book_after b (check m) ≡ b
+    on (Ok a) e = absurd (h a.row a.counter ((demand_2.accepted b s m a.row a.counter).0 e))
+    on (Err r) e = rw e
 
 -- ---- the server rows of a run: as many as at the start, and sound or not as they were then
 
@@ -266,34 +268,34 @@ rows_unsound s e (judge k m) = unsound_kept s k m e
 pub not_heeded : (s : Servers) (k : ℕ) (m : List ℕ) → ((type c : ℕ) → Heeds s k m type c → ⊥) → rows_after s (judge k m) ≡ s
 not_heeded s k m h = on (judge_of s k m) refl
   where
-    accepted : {A : Type 0} (type c : ℕ) → judged_of (judge_of s k m) ≡ Heeded type c → A
-    accepted type c e = absurd (h type c ((demand_2.heeded s k m type c).0 e))
+    believed : {A : Type 0} (type c : ℕ) → judged_of (judge_of s k m) ≡ heeding type c → A
+    believed type c e = absurd (h type c ((demand_2.heeded s k m type c).0 e))
 
     on : (x : Judgement) → judge_of s k m ≡ x → rows_after s (judge k m) ≡ s
-    on (takes c nonce) e = accepted gives_nonce c (ap judged_of e)
-    on (knows c) e = accepted gives_nonce c (ap judged_of e)
-    on (renews c) e = accepted orders_renewal c (ap judged_of e)
+    on (takes c nonce) e = believed gives_nonce c (ap judged_of e)
+    on (knows c) e = believed gives_nonce c (ap judged_of e)
+    on (renews c) e = believed orders_renewal c (ap judged_of e)
     on (refused r) e = rw e
 
 -- ---- orders that were believed
 
 -- only an order is accepted with its type
-order_renews : (x : Judgement) (c : ℕ) → judged_of x ≡ Heeded orders_renewal c → x ≡ renews c
-order_renews (takes d nonce) c e = let z : ◌≡◌ {A = ℕ} 1 2 = cc in absurd (omega arith)
-order_renews (knows d) c e = let z : ◌≡◌ {A = ℕ} 1 2 = cc in absurd (omega arith)
-order_renews (renews d) c e = let z : d ≡ c = cc in ap renews z
+order_renews : (x : Judgement) (c : ℕ) → judged_of x ≡ heeding orders_renewal c → x ≡ renews c
+order_renews (takes d nonce) c e = let z = (heeding_parts e).0 in absurd (omega arith)
+order_renews (knows d) c e = let z = (heeding_parts e).0 in absurd (omega arith)
+order_renews (renews d) c e = ap renews (heeding_parts e).1
 order_renews (refused r) c e = never cc
 
 -- it leaves its row heard with its counter, and where a row is so it is a replay
-pub order_heard : (s : Servers) (k : ℕ) (m : List ℕ) (c : ℕ) → judged_of (judge_of s k m) ≡ Heeded orders_renewal c → Heard (rows_after s (judge k m)) k c
+pub order_heard : (s : Servers) (k : ℕ) (m : List ℕ) (c : ℕ) → judged_of (judge_of s k m) ≡ heeding orders_renewal c → Heard (rows_after s (judge k m)) k c
 order_heard s k m c e = renews_heard s k m c c (order_renews (judge_of s k m) c e) (le_refl c)
 
-pub order_again : (s t : Servers) (k : ℕ) (m : List ℕ) (c : ℕ) → judged_of (judge_of s k m) ≡ Heeded orders_renewal c → Heard t k c
+pub order_again : (s t : Servers) (k : ℕ) (m : List ℕ) (c : ℕ) → judged_of (judge_of s k m) ≡ heeding orders_renewal c → Heard t k c
     → judge_of t k m ≡ refused Replay
 order_again s t k m c e h = heard_replays s t k m c (order_renews (judge_of s k m) c e) h
 
 -- and what is accepted with the other type gives a nonce
-pub nonce_gives : (s : Servers) (k : ℕ) (m : List ℕ) (c : ℕ) → judged_of (judge_of s k m) ≡ Heeded gives_nonce c → (nonce : List ℕ) × GivesNonce s k m c nonce
+pub nonce_gives : (s : Servers) (k : ℕ) (m : List ℕ) (c : ℕ) → judged_of (judge_of s k m) ≡ heeding gives_nonce c → (nonce : List ℕ) × GivesNonce s k m c nonce
 nonce_gives s k m c e = on ((demand_2.heeded s k m gives_nonce c).0 e) refl
   where
     on : {type d : ℕ} → Heeds s k m type d → type ≡ gives_nonce → (nonce : List ℕ) × GivesNonce s k m d nonce
@@ -322,7 +324,7 @@ stays_heard s (judge j m) k c none h =
       | yes g ↦ rw (← g) (on (judge_of s k m) refl (λ o. none m (ap (λ (i : ℕ). judge i m) (sym g)) o))
     ]
   where
-    given : (d : ℕ) → (OtherNonce s k m → ⊥) → judged_of (judge_of s k m) ≡ Heeded gives_nonce d → Heard (rows_after s (judge k m)) k c
+    given : (d : ℕ) → (OtherNonce s k m → ⊥) → judged_of (judge_of s k m) ≡ heeding gives_nonce d → Heard (rows_after s (judge k m)) k c
     given d none e = let g = nonce_gives s k m d e in nonce_known s k m c d g.0 none h g.1
 
     on : (x : Judgement) → judge_of s k m ≡ x → (OtherNonce s k m → ⊥) → Heard (rows_after s (judge k m)) k c

@@ -2,17 +2,18 @@
 -- before it; putting it back moves the places behind it up by one (`up`), which keeps their order and leaves its own place free.
 use mathlib.Core.Path.{◌≡◌, refl, sym, ap, ◌∙◌}
 use mathlib.Core.Logic.{◌≢◌}
-use mathlib.Core.Option.{some, none-ne-some, some-injective}
+use Rattle.std.proofs.lemmas.Option.{none-some, same_Some}
 use mathlib.Core.List.{List, [], ◌∷◌, ◌++◌}
 use Prim.Native.Nat.{ℕ, zero, suc, ◌≤◌, ◌<◌}
 use native.Mathlib.Decide.{ℕ_discrete, dec_le, dec_lt}
 use native.Mathlib.Omega.{arith}
-use lib.ListN.{length, get_elem?, length-map}
+use lib.ListN.{length, length-map}
 use Rattle.demands.specs.Demand3.{Step, check, seal, judge, State, state_at, Carried, same, relayed, OneOrder, checks, seals, judgements}
 use Rattle.demands.specs.Demand3.{NotAccepted, no_check, no_judgement}
 use Rattle.demands.specs.Woven.{Item, carries, puts_in, step_in, run_of, Bound, Woven, rest, next, Unaccepted, WovenIsRearranged}
 use Rattle.demands.proofs.Runs.{some_at}
 use Rattle.demands.proofs.Steps.{name_relayed}
+use Rattle.std.specs.Prelude.{Some, slice_get}
 
 -- a place, after something was put in at n
 up : ℕ → ℕ → ℕ
@@ -21,17 +22,17 @@ up (suc n) zero = zero
 up (suc n) (suc p) = suc (up n p)
 
 module _ {A : Type 0} where
-  at_up : (xs : List A) (y : A) (ys : List A) (p : ℕ) → get_elem? (xs ++ y ∷ ys) (up (length xs) p) ≡ get_elem? (xs ++ ys) p
+  at_up : (xs : List A) (y : A) (ys : List A) (p : ℕ) → slice_get (xs ++ y ∷ ys) (up (length xs) p) ≡ slice_get (xs ++ ys) p
   unfolding up
   at_up [] y ys p = refl
   at_up (x ∷ xs) y ys zero = refl
   at_up (x ∷ xs) y ys (suc p) = at_up xs y ys p
 
-  at_seam : (xs : List A) (y : A) (ys : List A) → get_elem? (xs ++ y ∷ ys) (length xs) ≡ some y
+  at_seam : (xs : List A) (y : A) (ys : List A) → slice_get (xs ++ y ∷ ys) (length xs) ≡ Some y
   at_seam [] y ys = refl
   at_seam (x ∷ xs) y ys = at_seam xs y ys
 
-  at_front : (xs ys : List A) (p : ℕ) → p < length xs → get_elem? (xs ++ ys) p ≡ get_elem? xs p
+  at_front : (xs ys : List A) (p : ℕ) → p < length xs → slice_get (xs ++ ys) p ≡ slice_get xs p
   at_front [] ys p l = absurd (omega arith)
   at_front (x ∷ xs) ys zero l = refl
   at_front (x ∷ xs) ys (suc p) l = at_front xs ys p (omega arith)
@@ -73,9 +74,9 @@ up_inj n p q e =
 -- each step of the first run has a place of its own in the items, and every carried item is the place of one
 record Placed (first : List Step) (items : List Item) (place : ℕ → ℕ) : Type 0 where
   apart : (i j : ℕ) → i < length first → j < length first → place i ≡ place j → i ≡ j
-  carried : (i : ℕ) (s : Step) → get_elem? first i ≡ some s → (t : Step) × (get_elem? items (place i) ≡ some (carries t)) × Carried s t
-  order : (i j : ℕ) (s t : Step) → get_elem? first i ≡ some s → get_elem? first j ≡ some t → OneOrder s t → i < j → place i < place j
-  cover : (p : ℕ) (t : Step) → get_elem? items p ≡ some (carries t) → (i : ℕ) × (i < length first) × (place i ≡ p)
+  carried : (i : ℕ) (s : Step) → slice_get first i ≡ Some s → (t : Step) × (slice_get items (place i) ≡ Some (carries t)) × Carried s t
+  order : (i j : ℕ) (s t : Step) → slice_get first i ≡ Some s → slice_get first j ≡ Some t → OneOrder s t → i < j → place i < place j
+  cover : (p : ℕ) (t : Step) → slice_get items p ≡ Some (carries t) → (i : ℕ) × (i < length first) × (place i ≡ p)
 
 -- a step bound to another by `Rearranged` is bound to it, carried or not
 bound : (s t u : Step) → OneOrder s t → Carried t u → Bound s u
@@ -86,7 +87,7 @@ bound s t u (checks e f) (relayed {m = m} {n = n} p r) = (_, e, name_relayed m n
 
 -- the first step put back: at length xs
 module _ (s t : Step) (ss : List Step) (xs ys : List Item) (c : Carried s t)
-    (f : (p : ℕ) (u : Step) → get_elem? xs p ≡ some (carries u) → Bound s u → ⊥) (place : ℕ → ℕ) (h : Placed ss (xs ++ ys) place) where
+    (f : (p : ℕ) (u : Step) → slice_get xs p ≡ Some (carries u) → Bound s u → ⊥) (place : ℕ → ℕ) (h : Placed ss (xs ++ ys) place) where
   place' : ℕ → ℕ
   place' zero = length xs
   place' (suc i) = up (length xs) (place i)
@@ -98,14 +99,14 @@ module _ (s t : Step) (ss : List Step) (xs ys : List Item) (c : Carried s t)
   apart' (suc i) zero l m e = absurd (up_not (length xs) (place i) e)
   apart' (suc i) (suc j) l m e = ap suc (h.apart i j (omega arith) (omega arith) (up_inj (length xs) (place i) (place j) e))
 
-  carried' : (i : ℕ) (u : Step) → get_elem? (s ∷ ss) i ≡ some u
-      → (v : Step) × (get_elem? (xs ++ carries t ∷ ys) (place' i) ≡ some (carries v)) × Carried u v
+  carried' : (i : ℕ) (u : Step) → slice_get (s ∷ ss) i ≡ Some u
+      → (v : Step) × (slice_get (xs ++ carries t ∷ ys) (place' i) ≡ Some (carries v)) × Carried u v
   unfolding place'
-  carried' zero u e = (t, at_seam xs (carries t) ys, rw (← (some-injective s u e)) c)
+  carried' zero u e = (t, at_seam xs (carries t) ys, rw (← (same_Some s u e)) c)
   carried' (suc i) u e = let x = h.carried i u e in (x.0, at_up xs (carries t) ys (place i) ∙ x.1, x.2)
 
   -- a later step of the same order stands past it
-  past : (j : ℕ) (v : Step) → get_elem? ss j ≡ some v → OneOrder s v → length xs ≤ place j
+  past : (j : ℕ) (v : Step) → slice_get ss j ≡ Some v → OneOrder s v → length xs ≤ place j
   past j v b q =
       let x = h.carried j v b in
       elim (dec_le (length xs) (place j)) [
@@ -113,13 +114,13 @@ module _ (s t : Step) (ss : List Step) (xs ys : List Item) (c : Carried s t)
         | no l ↦ absurd (f (place j) x.0 (sym (at_front xs ys (place j) (omega arith)) ∙ x.1) (bound s v x.0 q x.2))
       ]
 
-  order' : (i j : ℕ) (u v : Step) → get_elem? (s ∷ ss) i ≡ some u → get_elem? (s ∷ ss) j ≡ some v → OneOrder u v → i < j → place' i < place' j
+  order' : (i j : ℕ) (u v : Step) → slice_get (s ∷ ss) i ≡ Some u → slice_get (s ∷ ss) j ≡ Some v → OneOrder u v → i < j → place' i < place' j
   unfolding place'
   order' i zero u v a b q l = absurd (omega arith)
-  order' zero (suc j) u v a b q l = up_past (length xs) (place j) (past j v b (rw (some-injective s u a) q))
+  order' zero (suc j) u v a b q l = up_past (length xs) (place j) (past j v b (rw (same_Some s u a) q))
   order' (suc i) (suc j) u v a b q l = up_mono (length xs) (place i) (place j) (h.order i j u v a b q (omega arith))
 
-  cover' : (p : ℕ) (u : Step) → get_elem? (xs ++ carries t ∷ ys) p ≡ some (carries u) → (i : ℕ) × (i < suc (length ss)) × (place' i ≡ p)
+  cover' : (p : ℕ) (u : Step) → slice_get (xs ++ carries t ∷ ys) p ≡ Some (carries u) → (i : ℕ) × (i < suc (length ss)) × (place' i ≡ p)
   unfolding place'
   cover' p u e =
       elim (ℕ_discrete p (length xs)) [
@@ -138,7 +139,7 @@ placed (rest f) = (
   λ i. i,
   record {
     apart = λ i j l m e. e;
-    carried = λ i s e. absurd (none-ne-some s e);
+    carried = λ i s e. absurd (none-some s e);
     order = λ i j s t e f g l. l;
     cover = λ p t e. absurd (f p t e);
   },
@@ -153,9 +154,9 @@ may_put_in b (check m) f = no_check f
 may_put_in b (seal id m) f = absurd f
 may_put_in b (judge k m) f = no_judgement f
 
-at_run : (items : List Item) (p : ℕ) (z : Item) → get_elem? items p ≡ some z → get_elem? (run_of items) p ≡ some (step_in z)
-at_run [] p z e = absurd (none-ne-some z e)
-at_run (x ∷ items) zero z e = ap (λ (o : Item). some (step_in o)) (some-injective x z e)
+at_run : (items : List Item) (p : ℕ) (z : Item) → slice_get items p ≡ Some z → slice_get (run_of items) p ≡ Some (step_in z)
+at_run [] p z e = absurd (none-some z e)
+at_run (x ∷ items) zero z e = ap (λ (o : Item). Some (step_in o)) (same_Some x z e)
 at_run (x ∷ items) (suc p) z e = at_run items p z e
 
 pub woven_is_rearranged : WovenIsRearranged
@@ -173,7 +174,7 @@ woven_is_rearranged b first items w x =
     )
   where
     -- an item that is no place of a step was put in
-    not_carried : (p : ℕ) → ((t : Step) → get_elem? items p ≡ some (carries t) → ⊥) → (z : Item) → get_elem? items p ≡ some z
-        → (t : Step) × (get_elem? (run_of items) p ≡ some t) × NotAccepted (state_at b (run_of items) p) t
+    not_carried : (p : ℕ) → ((t : Step) → slice_get items p ≡ Some (carries t) → ⊥) → (z : Item) → slice_get items p ≡ Some z
+        → (t : Step) × (slice_get (run_of items) p ≡ Some t) × NotAccepted (state_at b (run_of items) p) t
     not_carried p g (carries t) e = absurd (g t e)
     not_carried p g (puts_in t) e = (t, at_run items p (puts_in t) e, may_put_in (state_at b (run_of items) p) t (x p t e))

@@ -1,7 +1,6 @@
 -- When a check accepts, when a message has a key, when a seal seals, and when a server's nonce or its order is accepted, in plain sight (docs/RULES.md, 'The
 -- demands', 'Check', 'Key of a message', 'Seal', 'FORCERENEW by nonce').
-use Rattle.std.specs.Prelude.{ℕ, ◌+◌, ◌*◌, ◌<◌, ◌≡◌, ◌≢◌, true, List, ◌++◌, length, get_or, set, take, drop}
-use Rattle.std.proofs.Math.Option.{some}
+use Rattle.std.specs.Prelude.{ℕ, ◌+◌, ◌*◌, ◌<◌, ◌≡◌, ◌≢◌, true, List, ◌++◌, length, get_or, set, take, drop, Ok, Some}
 use Rattle.hmac_md5.specs.Hmac.{hmac}
 use Rattle.dhcp_message.specs.Layout.{length_at, method_at, counter_at}
 use Rattle.octets.specs.Bytes.{written}
@@ -12,10 +11,7 @@ use Rattle.dhcp_message.specs.Said.{says, said_of, named, form_of}
 use Rattle.dhcp_message.specs.Image.{image_of}
 use Rattle.dhcp_message.specs.Seal.{fields}
 use Rattle.dhcp_message.specs.declared.Auth.{Auth}
-use Rattle.dhcp_message.specs.declared.Form.TheVariants.{Full}
 use Rattle.dhcp_message.specs.declared.Places.{Places}
-use Rattle.dhcp_message.specs.declared.Shape.TheVariants.{Passed}
-use Rattle.dhcp_message.specs.declared.MessageType.TheVariants.{Stated}
 use Rattle.key_book.specs.Book.{Book, row_of, key_of}
 use Rattle.delayed_auth.specs.Check.{new_to}
 use Rattle.delayed_auth.specs.Seal.{counter_most}
@@ -30,7 +26,7 @@ pub record Accepts (b : Book) (m : List ℕ) (k c : ℕ) : Type 0 where
   -- the form of delayed authentication, as numbers 2 to 9 judge it: the message says counter, secret id and MAC
   pub form : said_of m ≡ says c id mac
   -- its secret is in the book
-  pub secret : row_of b id ≡ some k
+  pub secret : row_of b id ≡ Some k
   -- its counter is new to that secret: the row is not heard, or its received counter is below
   pub new : new_to b k c ≡ true
   -- its MAC is right over the message as RFC 3118, section 3, has it read
@@ -40,18 +36,18 @@ pub record Accepts (b : Book) (m : List ℕ) (k c : ℕ) : Type 0 where
 pub record Names (b : Book) (m : List ℕ) (k : ℕ) : Type 0 where
   pub id : ℕ
   -- the form of delayed authentication, as numbers 2 to 9 judge it: the message names a secret
-  pub form : named m ≡ some id
+  pub form : named m ≡ Some id
   -- its secret is in the book
-  pub secret : row_of b id ≡ some k
+  pub secret : row_of b id ≡ Some k
 
 -- Under the given id the book seals message m at row k with counter c, and n is what it leaves.
 pub record Seals (b : Book) (id : ℕ) (m : List ℕ) (k c : ℕ) (n : List ℕ) : Type 0 where
   pub auth : Auth
   pub mac : List ℕ
   -- the message passes 2 to 9: its option 90 is in full form
-  pub form : form_of m ≡ Full auth
+  pub form : form_of m ≡ Ok auth
   -- the given id has a row
-  pub secret : row_of b id ≡ some k
+  pub secret : row_of b id ≡ Some k
   -- its sent counter is not the largest, and the next is written
   pub left : get_or b.sent k 0 < counter_most
   pub next : c ≡ get_or b.sent k 0 + 1
@@ -65,7 +61,7 @@ pub record Seals (b : Book) (id : ℕ) (m : List ℕ) (k c : ℕ) (n : List ℕ)
 -- Message m passes 2 to 7, and its option 90 stands at offset o.
 pub record OptionAt (m : List ℕ) (o : ℕ) : Type 0 where
   pub places : Places
-  pub form : shape_of m ≡ Passed places
+  pub form : shape_of m ≡ Ok places
   pub place : o ≡ places.at
 
 -- That option 90 is one by a nonce.
@@ -84,7 +80,7 @@ pub record GivesNonce (s : Servers) (k : ℕ) (m : List ℕ) (c : ℕ) (nonce : 
   pub row : k < length s.marks
   -- type 1 in an ACK
   pub type : type_in m o ≡ gives_nonce
-  pub message_type : message_type_of m ≡ Stated ack_type
+  pub message_type : message_type_of m ≡ Some ack_type
   pub counter : c ≡ counter_in m o
   pub value : nonce ≡ value_in m o
 
@@ -97,7 +93,7 @@ pub record OrdersRenewal (s : Servers) (k : ℕ) (m : List ℕ) (c : ℕ) : Type
   pub row : k < length s.marks
   -- type 2 in a FORCERENEW
   pub type : type_in m o ≡ orders_renewal
-  pub message_type : message_type_of m ≡ Stated forcerenew_type
+  pub message_type : message_type_of m ≡ Some forcerenew_type
   pub counter : c ≡ counter_in m o
   -- that server gave a nonce
   pub nonce_there : get_or s.marks k 0 ≢ none_yet

@@ -1,17 +1,18 @@
 -- The bench examples of docs/RULES.md ('Bench examples') that are proved together, as one statement over the definitions: each is written out in the
 -- crate that it belongs to, and example 8 and the number of example 6 here. Book B is the book of examples 3 to 8.
 use Rattle.std.specs.Prelude.{ℕ, ◌≤◌, ◌≡◌, ◌↔◌, List, [], ◌∷◌, ◌++◌}
+use Rattle.refusal.specs.Number.{result_number}
 use Rattle.dhcp_message.specs.Said.{form_of, form_number}
 use Rattle.dhcp_message.specs.Bench.{message_of, full_auth, some_mac, relay_in_the_middle, BenchExamples}
 use Rattle.key_book.specs.Examples.{Example10, Example12}
-use Rattle.delayed_auth.specs.Check.{check_of, verdict_number}
+use Rattle.delayed_auth.specs.Check.{check_of}
 use Rattle.comparison.specs.Examples.{ComparisonExample}
 use Rattle.forcerenew.specs.Examples.{NonceExamples}
 use Rattle.card_laws.specs.Examples.{book_b, Example1, MarkedCards, Example2}
 
 -- the number of a check of the message on Book B
 abbrev pub number_on_b : List ℕ → ℕ
-number_on_b m = verdict_number (check_of book_b m)
+number_on_b m = result_number (check_of book_b m)
 
 -- an option 90 in full form with protocol 1 and a wrong MAC, by counter and id
 abbrev pub forged_message : ℕ → ℕ → List ℕ

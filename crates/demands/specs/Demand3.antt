@@ -1,24 +1,23 @@
 -- Demand 3 (docs/RULES.md, 'The demands' and 'Runs'): whole runs of checks, seals and judgements by a nonce, and the second runs that the network can make
 -- of them. There is no load in a run: loading a card replaces marks and counters and starts a new run. The proofs of demand 3 and of `RunsKeepSound` are in
 -- proofs/Demand3.antt.
-use Rattle.std.specs.Prelude.{ℕ, zero, suc, ◌<◌, ◌≡◌, ◌≢◌, List, [], ◌∷◌, length}
-use Rattle.std.proofs.Math.Option.{some}
-use Rattle.std.proofs.Math.ListN.{get_elem?}
+use Rattle.std.specs.Prelude.{ℕ, zero, suc, ◌<◌, ◌≡◌, ◌≢◌, List, [], ◌∷◌, length, Result, Some, slice_get}
+use Rattle.refusal.specs.Number.{result_number}
 use Rattle.dhcp_message.specs.Message.{Passes27}
 use Rattle.dhcp_message.specs.Said.{named}
 use Rattle.dhcp_message.specs.Relay.{Relayed}
 use Rattle.key_book.specs.Book.{Book, book_of, Sound}
-use Rattle.delayed_auth.specs.declared.Verdict.{Verdict}
-use Rattle.delayed_auth.specs.declared.Verdict.TheVariants.{Accepted}
-use Rattle.delayed_auth.specs.declared.Sealing.{Sealing}
-use Rattle.delayed_auth.specs.Check.{check_of, marks_after, received_after, verdict_number}
+use Rattle.delayed_auth.specs.Check.{check_of, marks_after, received_after}
 use Rattle.delayed_auth.specs.Seal.{seal_of, sealing_of, message_after, sent_after}
 use Rattle.forcerenew.specs.Layout.{gives_nonce, orders_renewal}
 use Rattle.forcerenew.specs.Rows.{Servers, SoundRows, nonce_at}
-use Rattle.forcerenew.specs.Judging.{judge_of, judged_of, judged_number, servers_after}
-use Rattle.forcerenew.specs.declared.Judged.{Judged}
-use Rattle.forcerenew.specs.declared.Judged.TheVariants.{Accepted as Heeded}
+use Rattle.forcerenew.specs.Judging.{judge_of, judged_of, servers_after}
 use Rattle.demands.specs.Accepts.{Accepts, GivesNonce, Heeds, Stores}
+use Rattle.delayed_auth.specs.declared.Accepted.{Accepted}
+use Rattle.forcerenew.specs.declared.Heeded.{Heeded}
+use Rattle.refusal.specs.declared.Refusal.{Refusal}
+use Rattle.delayed_auth.specs.Check.{accepting}
+use Rattle.forcerenew.specs.Judging.{heeding}
 
 -- ---- a run
 
@@ -36,9 +35,9 @@ pub record State : Type 0 where
 
 -- all that a step returns, and for a seal its whole buffer afterwards, refused ones too
 pub data Answer : Type 0 where
-  checked : Verdict → Answer
-  wrote : Sealing → (buffer : List ℕ) → Answer
-  judged : Judged → Answer
+  checked : Result Accepted Refusal → Answer
+  wrote : Result ℕ Refusal → (buffer : List ℕ) → Answer
+  judged : Result Heeded Refusal → Answer
 
 abbrev pub answer_of : State → Step → Answer
 answer_of b (check m) = checked (check_of b.book m)
@@ -95,7 +94,7 @@ pub data Carried : Step → Step → Type 0 where
 
 -- two steps that keep their order: checks that name one secret, seals under one secret, judgements of one row number, whatever they answer
 pub data OneOrder : Step → Step → Type 0 where
-  checks : {m n : List ℕ} {id : ℕ} → named m ≡ some id → named n ≡ some id → OneOrder (check m) (check n)
+  checks : {m n : List ℕ} {id : ℕ} → named m ≡ Some id → named n ≡ Some id → OneOrder (check m) (check n)
   seals : {m n : List ℕ} {id : ℕ} → OneOrder (seal id m) (seal id n)
   judgements : {m n : List ℕ} {k : ℕ} → OneOrder (judge k m) (judge k n)
 
@@ -109,16 +108,16 @@ pub record Rearranged (b : State) (first second : List Step) (place : ℕ → �
   -- each step has a place of its own: said for the reader, no step of the proof uses it
   pub apart : (i j : ℕ) → i < length first → j < length first → place i ≡ place j → i ≡ j
   -- where it stands as it is, or relayed
-  pub carried : (i : ℕ) (s : Step) → get_elem? first i ≡ some s → (t : Step) × (get_elem? second (place i) ≡ some t) × Carried s t
+  pub carried : (i : ℕ) (s : Step) → slice_get first i ≡ Some s → (t : Step) × (slice_get second (place i) ≡ Some t) × Carried s t
   -- steps of one secret or one server keep their order
-  pub order : (i j : ℕ) (s t : Step) → get_elem? first i ≡ some s → get_elem? first j ≡ some t → OneOrder s t → i < j → place i < place j
+  pub order : (i j : ℕ) (s t : Step) → slice_get first i ≡ Some s → slice_get first j ≡ Some t → OneOrder s t → i < j → place i < place j
   -- every other place holds a step that is not accepted there
   pub put_in : (p : ℕ) → p < length second → ((i : ℕ) → i < length first → place i ≢ p)
-      → (t : Step) × (get_elem? second p ≡ some t) × NotAccepted (state_at b second p) t
+      → (t : Step) × (slice_get second p ≡ Some t) × NotAccepted (state_at b second p) t
 
 -- every step of the first run gets the same answer in the second, and all marks, counters and server rows end the same
 pub record SameRun (b : State) (first second : List Step) (place : ℕ → ℕ) : Type 0 where
-  pub same_answers : (i : ℕ) → i < length first → get_elem? (answers b second) (place i) ≡ get_elem? (answers b first) i
+  pub same_answers : (i : ℕ) → i < length first → slice_get (answers b second) (place i) ≡ slice_get (answers b first) i
   pub same_marks : (ending b second).book.marks ≡ (ending b first).book.marks
   pub same_received : (ending b second).book.received ≡ (ending b first).book.received
   pub same_sent : (ending b second).book.sent ≡ (ending b first).book.sent
@@ -140,21 +139,21 @@ pub record Demand3 : Type 0 where
   -- in every run, a message accepted at step i and checked again at a later step j, as it was or after any number of permitted relay changes,
   -- whatever stands between, is refused as a replay, with number 11
   pub no_replay : (b : State) → Sound b.book → (run : List Step) (i j : ℕ) (m n : List ℕ) (k c : ℕ) → i < j
-      → get_elem? run i ≡ some (check m) → get_elem? (answers b run) i ≡ some (checked (Accepted k c))
-      → get_elem? run j ≡ some (check n) → Relayed m n
-      → (v : Verdict) × (get_elem? (answers b run) j ≡ some (checked v)) × (verdict_number v ≡ 11)
+      → slice_get run i ≡ Some (check m) → slice_get (answers b run) i ≡ Some (checked (accepting k c))
+      → slice_get run j ≡ Some (check n) → Relayed m n
+      → (v : Result Accepted Refusal) × (slice_get (answers b run) j ≡ Some (checked v)) × (result_number v ≡ 11)
   -- in every run, a FORCERENEW accepted at step i and shown again for its row at a later step j is refused as a replay, with number 11, as long as at no
   -- step between an accepted ACK for that row carries a nonce other than the one then stored
   pub no_order_twice : (b : State) (run : List Step) (i j k c : ℕ) (m : List ℕ) → i < j
-      → get_elem? run i ≡ some (judge k m) → get_elem? (answers b run) i ≡ some (judged (Heeded orders_renewal c))
-      → get_elem? run j ≡ some (judge k m)
-      → ((p : ℕ) (n : List ℕ) → i < p → p < j → get_elem? run p ≡ some (judge k n) → OtherNonce (state_at b run p).servers k n → ⊥)
-      → (v : Judged) × (get_elem? (answers b run) j ≡ some (judged v)) × (judged_number v ≡ 11)
+      → slice_get run i ≡ Some (judge k m) → slice_get (answers b run) i ≡ Some (judged (heeding orders_renewal c))
+      → slice_get run j ≡ Some (judge k m)
+      → ((p : ℕ) (n : List ℕ) → i < p → p < j → slice_get run p ≡ Some (judge k n) → OtherNonce (state_at b run p).servers k n → ⊥)
+      → (v : Result Heeded Refusal) × (slice_get (answers b run) j ≡ Some (judged v)) × (result_number v ≡ 11)
   -- in every run, an ACK accepted at step i and shown again at a later step j, for any row that is there, is accepted again, and its nonce is stored as a
   -- first showing would store it
   pub ack_again : (b : State) (run : List Step) (i j k l c : ℕ) (m : List ℕ) → i < j
-      → get_elem? run i ≡ some (judge k m) → get_elem? (answers b run) i ≡ some (judged (Heeded gives_nonce c))
-      → get_elem? run j ≡ some (judge l m) → l < length b.servers.marks
-      → (get_elem? (answers b run) j ≡ some (judged (Heeded gives_nonce c)))
+      → slice_get run i ≡ Some (judge k m) → slice_get (answers b run) i ≡ Some (judged (heeding gives_nonce c))
+      → slice_get run j ≡ Some (judge l m) → l < length b.servers.marks
+      → (slice_get (answers b run) j ≡ Some (judged (heeding gives_nonce c)))
       × ((nonce : List ℕ) × GivesNonce (state_at b run i).servers k m c nonce
       × Stores (state_at b run j).servers l nonce (state_at b run (suc j)).servers)

@@ -2,13 +2,11 @@
 -- on the soundness of the book and on the ids; then on the key, the mark and the counter of the row found. Not on another row's but through soundness,
 -- not on slot bytes past a key, not on rows from r on. A judgement's, on the soundness of the server rows and on the named row's mark, its nonce where it
 -- has one, its counter where it is heard. Its one proof is proofs/Dependence.antt.
-use Rattle.std.specs.Prelude.{ℕ, ◌+◌, ◌*◌, ◌<◌, ◌≡◌, ◌≢◌, ◌↔◌, List, length, get_or, take}
-use Rattle.std.proofs.Math.Option.{some}
+use Rattle.std.specs.Prelude.{ℕ, ◌+◌, ◌*◌, ◌<◌, ◌≡◌, ◌≢◌, ◌↔◌, List, length, get_or, take, Ok, Some}
 use Rattle.dhcp_message.specs.Layout.{seal_size}
 use Rattle.dhcp_message.specs.Said.{form_of}
 use Rattle.dhcp_message.specs.Seal.{sealed_with}
 use Rattle.dhcp_message.specs.declared.Auth.{Auth}
-use Rattle.dhcp_message.specs.declared.Form.TheVariants.{Full}
 use Rattle.key_book.specs.Limits.{slot_size}
 use Rattle.key_book.specs.Book.{Book, Sound, sound, row_of, key_of}
 use Rattle.key_book.specs.Laws.{Alike}
@@ -34,8 +32,8 @@ pub record SameForCheck (a b : Book) (m : List ℕ) : Type 0 where
 -- two books agree in all that a seal under the id goes by
 pub record SameForSeal (a b : Book) (id : ℕ) : Type 0 where
   pub secrets : SameSecrets a b
-  pub key : (k : ℕ) → Sound a → row_of a id ≡ some k → key_of a k ≡ key_of b k
-  pub sent : (k : ℕ) → Sound a → row_of a id ≡ some k → get_or a.sent k 0 ≡ get_or b.sent k 0
+  pub key : (k : ℕ) → Sound a → row_of a id ≡ Some k → key_of a k ≡ key_of b k
+  pub sent : (k : ℕ) → Sound a → row_of a id ≡ Some k → get_or a.sent k 0 ≡ get_or b.sent k 0
 
 -- two books agree in their sizes and in the rows in use: id, key length, mark (`Alike`), as many bytes of the slot, both counters
 pub record SameInUse (a b : Book) : Type 0 where
@@ -62,7 +60,7 @@ pub record Dependence : Type 0 where
   -- and so does a seal, but for its row's sent counter
   pub seal : (a b : Book) (id : ℕ) (m : List ℕ) → SameForSeal a b id → seal_of a id m ≡ seal_of b id m
   -- counter, id and MAC found in the message don't matter: with any others in their place the outcome is the same, and so are a sealed message's bytes
-  pub found_fields : (b : Book) (id : ℕ) (m : List ℕ) (a : Auth) (other : List ℕ) → form_of m ≡ Full a → length other ≡ seal_size
+  pub found_fields : (b : Book) (id : ℕ) (m : List ℕ) (a : Auth) (other : List ℕ) → form_of m ≡ Ok a → length other ≡ seal_size
       → seal_of b id (sealed_with a other m) ≡ seal_of b id m
   -- a judgement by a nonce reads the message, whether the rows are sound, and its own row
   pub judge : (a b : Servers) (k : ℕ) (m : List ℕ) → SameForJudge a b k → judge_of a k m ≡ judge_of b k m

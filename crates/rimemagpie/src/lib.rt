@@ -4,24 +4,27 @@
 // a lent place, which a refusal leaves as it was, but that a digest or MAC refused with 14 is 16 zero bytes there, and that the number of looks is
 // written with 10 too.
 //
+// No function of the library allocates: every room is lent, or of a fixed size.
+//
 // A slice is a pointer and a length to C. That these are right, and that what is lent doesn't overlap, is up to the caller.
 #![tactic(auto)]
 
 ghost use Rattle.std.specs.Prelude.{◌≡◌, length};
-ghost use Rattle.md5_digest.specs.Entries.{md5_of};
+ghost use Rattle.refusal.specs.Number.{result_number, given_or};
+ghost use Rattle.md5_digest.specs.Entries.{md5_of, no_digest};
 ghost use Rattle.hmac_md5.specs.Hmac.{hmac_of};
 ghost use Rattle.key_book.specs.Book.{book_of};
 ghost use Rattle.key_book.specs.Halving.{known_of, sought_number};
-ghost use Rattle.delayed_auth.specs.Check.{check_of, marks_after, received_after, verdict_number};
-ghost use Rattle.delayed_auth.specs.Key.{keyed_of, key_number};
+ghost use Rattle.delayed_auth.specs.Check.{check_of, marks_after, received_after};
+ghost use Rattle.delayed_auth.specs.Key.{keyed_of};
 ghost use Rattle.delayed_auth.specs.Seal.{seal_of, sealing_of, message_after, sent_after, outcome_number};
 ghost use Rattle.forcerenew.specs.Rows.{servers_of};
-ghost use Rattle.forcerenew.specs.Judging.{judge_of, judged_of, judged_number, nonces_after, counters_after, row_marks_after};
+ghost use Rattle.forcerenew.specs.Judging.{judge_of, judged_of, nonces_after, counters_after, row_marks_after};
 ghost use Rattle.book_card.specs.declared.CardForm.TheVariants.{Old, New};
-ghost use Rattle.book_card.specs.Reading.{read_of, read_book, rows_given, read_number};
-ghost use Rattle.book_card.specs.Writing.{write_of, room_after, write_number};
+ghost use Rattle.book_card.specs.Reading.{read_of, read_book, rows_given};
+ghost use Rattle.book_card.specs.Writing.{write_of, room_after};
 ghost use Rattle.book_card.specs.Moving.{move_of, room_moved};
-ghost use Rattle.comparison.specs.Entry.{compare_of, room_compared, compared_number};
+ghost use Rattle.comparison.specs.Entry.{compare_of, room_compared};
 ghost use Rattle.card_pieces.specs.Pieces.{fresh};
 ghost use Rattle.card_pieces.specs.Numbers.{form_number, phase_number};
 ghost use Rattle.rimemagpie.specs.Places.{row_place, counter_place, offset_place, size_place, sealed_place, rows_place, card_place};
@@ -29,36 +32,32 @@ ghost use Rattle.rimemagpie.specs.Places.{sought_place, looks_place, kind_place,
 ghost use Rattle.rimemagpie.specs.States.{state_of, fed_number, fed_spare, tail_place, kept_place, read_place, low_place, form_place, phase_place};
 ghost use Rattle.rimemagpie.specs.States.{ended_answer, ended_book};
 
-use book_card::{CardForm, ReadAnswer, WriteAnswer};
+use book_card::CardForm;
 use card_pieces::{Reader, TAIL_MOST};
-use comparison::Compared;
-use delayed_auth::{Keyed, Sealing, Verdict};
-use forcerenew::Judged;
-use key_book::Sought;
+use key_book::{LentBook, LentRoom, Sought};
+use md5_digest::DIGEST_SIZE;
 use refusal::Refusal;
 
 // The digest of a message.
 #[unsafe(no_mangle)]
-pub extern "C" fn rimemagpie_digest(message: &[u8], digest: &mut [u8; 16]) -> u8
-    ensures number { result ≡ (md5_of message.now).number }
-    ensures bytes { digest.new ≡ (md5_of message.now).digest }
+pub extern "C" fn rimemagpie_digest(message: &[u8], digest: &mut [u8; DIGEST_SIZE]) -> u8
+    ensures number { result ≡ result_number (md5_of message.now) }
+    ensures bytes { digest.new ≡ given_or no_digest (md5_of message.now) }
 {
-    let finished = md5_digest::md5(message);
-    let bytes = finished.digest;
-    *digest = bytes;
-    finished.number
+    let digested = md5_digest::md5(message);
+    *digest = digested.unwrap_or([0u8; DIGEST_SIZE]);
+    refusal::result_number(digested)
 }
 
 // The MAC of a message under a key.
 #[unsafe(no_mangle)]
-pub extern "C" fn rimemagpie_hmac(key: &[u8], message: &[u8], mac: &mut [u8; 16]) -> u8
-    ensures number { result ≡ (hmac_of key.now message.now).number }
-    ensures bytes { mac.new ≡ (hmac_of key.now message.now).mac }
+pub extern "C" fn rimemagpie_hmac(key: &[u8], message: &[u8], mac: &mut [u8; DIGEST_SIZE]) -> u8
+    ensures number { result ≡ result_number (hmac_of key.now message.now) }
+    ensures bytes { mac.new ≡ given_or no_digest (hmac_of key.now message.now) }
 {
     let answer = hmac_md5::hmac(key, message);
-    let bytes = answer.mac;
-    *mac = bytes;
-    answer.number
+    *mac = answer.unwrap_or([0u8; DIGEST_SIZE]);
+    refusal::result_number(answer)
 }
 
 // Judges a message, and where it is accepted stores its counter as received and marks its row heard.
@@ -76,7 +75,7 @@ pub extern "C" fn rimemagpie_check(
     counter: &mut u64,
 ) -> u8
     ensures number { let b = book_of ids.now lengths.now store.now marks.old received.old sent.now rows in
-        result ≡ verdict_number (check_of b message.now) }
+        result ≡ result_number (check_of b message.now) }
     ensures marked { let b = book_of ids.now lengths.now store.now marks.old received.old sent.now rows in
         marks.new ≡ marks_after (check_of b message.now) marks.old }
     ensures stored { let b = book_of ids.now lengths.now store.now marks.old received.old sent.now rows in
@@ -86,14 +85,13 @@ pub extern "C" fn rimemagpie_check(
     ensures counter { let b = book_of ids.now lengths.now store.now marks.old received.old sent.now rows in
         counter.new ≡ counter_place counter.old (check_of b message.now) }
 {
-    let verdict = delayed_auth::check(ids, lengths, store, marks, received, sent, rows, message);
-    match verdict {
-        Verdict::Accepted(at, accepted) => {
-            *row = at as u64;
-            *counter = accepted;
+    match delayed_auth::check(ids, lengths, store, marks, received, sent, rows, message) {
+        Ok(accepted) => {
+            *row = accepted.row as u64;
+            *counter = accepted.counter;
             0
         }
-        Verdict::Refused(refusal) => refusal::number(refusal),
+        Err(refusal) => refusal::number(refusal),
     }
 }
 
@@ -112,21 +110,29 @@ pub extern "C" fn rimemagpie_key(
     size: &mut u64,
 ) -> u8
     ensures number { let b = book_of ids.now lengths.now store.now marks.now received.now sent.now rows in
-        result ≡ key_number (keyed_of b message.now) }
+        result ≡ result_number (keyed_of b message.now) }
     ensures offset { let b = book_of ids.now lengths.now store.now marks.now received.now sent.now rows in
         offset.new ≡ offset_place offset.old (keyed_of b message.now) }
     ensures size { let b = book_of ids.now lengths.now store.now marks.now received.now sent.now rows in
         size.new ≡ size_place b size.old (keyed_of b message.now) }
 {
-    let keyed = delayed_auth::named_row(ids, lengths, store, marks, received, sent, rows, message);
-    match keyed {
-        Keyed::Row(row) => {
+    let book = LentBook {
+        ids,
+        lengths,
+        store,
+        marks,
+        received,
+        sent,
+        rows,
+    };
+    match delayed_auth::named_row(book, message) {
+        Ok(row) => {
             let key = key_book::key_of(store, lengths, row);
             *offset = (key_book::SLOT_SIZE * row) as u64;
             *size = key.len() as u64;
             0
         }
-        Keyed::NoKey(refusal) => refusal::number(refusal),
+        Err(refusal) => refusal::number(refusal),
     }
 }
 
@@ -153,15 +159,14 @@ pub extern "C" fn rimemagpie_seal(
     ensures counter { let b = book_of ids.now lengths.now store.now marks.now received.now sent.old rows in
         counter.new ≡ sealed_place counter.old (sealing_of (seal_of b id message.old)) }
 {
-    let sealing = delayed_auth::seal(
+    match delayed_auth::seal(
         ids, lengths, store, marks, received, sent, rows, id, message,
-    );
-    match sealing {
-        Sealing::Sealed(next) => {
+    ) {
+        Ok(next) => {
             *counter = next;
             0
         }
-        Sealing::Unsealed(refusal) => refusal::number(refusal),
+        Err(refusal) => refusal::number(refusal),
     }
 }
 
@@ -178,20 +183,27 @@ pub extern "C" fn rimemagpie_card_read(
     rows: &mut u64,
 ) -> u8
     ensures number { let b = book_of ids.old lengths.old store.old marks.old received.old sent.old 0 in
-        result ≡ read_number (read_of b card.now) }
+        result ≡ result_number (read_of b card.now) }
     ensures book { let b = book_of ids.old lengths.old store.old marks.old received.old sent.old 0 in
         book_of ids.new lengths.new store.new marks.new received.new sent.new
         (rows_given (read_of b card.now)) ≡ read_book b card.now }
     ensures rows { let b = book_of ids.old lengths.old store.old marks.old received.old sent.old 0 in
         rows.new ≡ rows_place rows.old (read_of b card.now) }
 {
-    let answer = book_card::card_read(card, ids, lengths, store, marks, received, sent);
-    match answer {
-        ReadAnswer::Rows(read) => {
+    let mut room = LentRoom {
+        ids,
+        lengths,
+        store,
+        marks,
+        received,
+        sent,
+    };
+    match book_card::card_read(card, &mut room) {
+        Ok(read) => {
             *rows = read as u64;
             0
         }
-        ReadAnswer::Refused(refusal) => refusal::number(refusal),
+        Err(refusal) => refusal::number(refusal),
     }
 }
 
@@ -209,54 +221,63 @@ pub extern "C" fn rimemagpie_card_write(
     size: &mut u64,
 ) -> u8
     ensures number { let b = book_of ids.now lengths.now store.now marks.now received.now sent.now rows in
-        result ≡ write_number (write_of b (length card.old)) }
+        result ≡ result_number (write_of b (length card.old)) }
     ensures room { let b = book_of ids.now lengths.now store.now marks.now received.now sent.now rows in
         card.new ≡ room_after b card.old }
     ensures size { let b = book_of ids.now lengths.now store.now marks.now received.now sent.now rows in
         size.new ≡ card_place size.old (write_of b (length card.old)) }
 {
-    let answer = book_card::card_write(ids, lengths, store, marks, received, sent, rows, card);
-    match answer {
-        WriteAnswer::Size(used) => {
+    let book = LentBook {
+        ids,
+        lengths,
+        store,
+        marks,
+        received,
+        sent,
+        rows,
+    };
+    match book_card::card_write(book, card) {
+        Ok(used) => {
             *size = used as u64;
             0
         }
-        WriteAnswer::Refused(refusal) => refusal::number(refusal),
+        Err(refusal) => refusal::number(refusal),
     }
 }
 
-// Writes a card's rows as a card of the old form to the front of a lent room. Later bytes of the room stay as they were.
+// Writes a card's rows as a card of a form to the front of a lent room. Later bytes of the room stay as they were. C has an entry for each form.
+fn move_card(wanted: CardForm, card: &[u8], room: &mut [u8], size: &mut u64) -> u8
+    ensures number { result ≡ result_number (move_of wanted card.now (length room.old)) }
+    ensures room { room.new ≡ room_moved wanted card.now room.old }
+    ensures size { size.new ≡ card_place size.old (move_of wanted card.now (length room.old)) }
+{
+    match book_card::card_move(wanted, card, room) {
+        Ok(moved) => {
+            *size = moved as u64;
+            0
+        }
+        Err(refusal) => refusal::number(refusal),
+    }
+}
+
+// The same in the old form.
 #[unsafe(no_mangle)]
 pub extern "C" fn rimemagpie_card_to_old(card: &[u8], room: &mut [u8], size: &mut u64) -> u8
-    ensures number { result ≡ write_number (move_of Old card.now (length room.old)) }
+    ensures number { result ≡ result_number (move_of Old card.now (length room.old)) }
     ensures room { room.new ≡ room_moved Old card.now room.old }
     ensures size { size.new ≡ card_place size.old (move_of Old card.now (length room.old)) }
 {
-    let answer = book_card::card_move(CardForm::Old, card, room);
-    match answer {
-        WriteAnswer::Size(moved) => {
-            *size = moved as u64;
-            0
-        }
-        WriteAnswer::Refused(refusal) => refusal::number(refusal),
-    }
+    move_card(CardForm::Old, card, room, size)
 }
 
-// Writes a card's rows as a card of the new form to the front of a lent room. Later bytes of the room stay as they were.
+// The same in the new form.
 #[unsafe(no_mangle)]
 pub extern "C" fn rimemagpie_card_to_new(card: &[u8], room: &mut [u8], size: &mut u64) -> u8
-    ensures number { result ≡ write_number (move_of New card.now (length room.old)) }
+    ensures number { result ≡ result_number (move_of New card.now (length room.old)) }
     ensures room { room.new ≡ room_moved New card.now room.old }
     ensures size { size.new ≡ card_place size.old (move_of New card.now (length room.old)) }
 {
-    let answer = book_card::card_move(CardForm::New, card, room);
-    match answer {
-        WriteAnswer::Size(moved) => {
-            *size = moved as u64;
-            0
-        }
-        WriteAnswer::Refused(refusal) => refusal::number(refusal),
-    }
+    move_card(CardForm::New, card, room, size)
 }
 
 // Whether an id stands in the first `count` of a list of ids, by halving, and how many were looked at.
@@ -299,7 +320,7 @@ pub extern "C" fn rimemagpie_forcerenew(
     counter: &mut u64,
 ) -> u8
     ensures number { let s = servers_of nonces.old counters.old marks.old in
-        result ≡ judged_number (judged_of (judge_of s row message.now)) }
+        result ≡ result_number (judged_of (judge_of s row message.now)) }
     ensures nonces { let s = servers_of nonces.old counters.old marks.old in
         nonces.new ≡ nonces_after row (judge_of s row message.now) nonces.old }
     ensures counters { let s = servers_of nonces.old counters.old marks.old in
@@ -311,15 +332,65 @@ pub extern "C" fn rimemagpie_forcerenew(
     ensures counter { let s = servers_of nonces.old counters.old marks.old in
         counter.new ≡ judged_place counter.old (judged_of (judge_of s row message.now)) }
 {
-    let judged = forcerenew::judge(nonces, counters, marks, row, message);
-    match judged {
-        Judged::Accepted(accepted, shown) => {
-            *kind = accepted;
-            *counter = shown;
+    match forcerenew::judge(nonces, counters, marks, row, message) {
+        Ok(heeded) => {
+            *kind = heeded.kind;
+            *counter = heeded.counter;
             0
         }
-        Judged::Refused(refusal) => refusal::number(refusal),
+        Err(refusal) => refusal::number(refusal),
     }
+}
+
+// The state of a card read in pieces, of its parts. None where no form or no phase has such a number.
+fn state_of(
+    tail: &[u8; TAIL_MOST],
+    kept: u64,
+    read: u64,
+    low: u64,
+    form: u8,
+    phase: u8,
+) -> Option<Reader>
+    ensures { result ≡ state_of tail.now kept read low form phase }
+{
+    if !card_pieces::are_numbers(form, phase) {
+        return None;
+    }
+    Some(Reader {
+        tail: *tail,
+        kept: kept as usize,
+        rows: read as usize,
+        low,
+        form: card_pieces::form_numbered(form),
+        phase: card_pieces::phase_numbered(phase),
+    })
+}
+
+// Hands a state over to the parts that are lent.
+fn hand_over(
+    state: Reader,
+    tail: &mut [u8; TAIL_MOST],
+    kept: &mut u64,
+    read: &mut u64,
+    low: &mut u64,
+    form: &mut u8,
+    phase: &mut u8,
+)
+    ensures tail { tail.new ≡ state.tail }
+    ensures kept { kept.new ≡ state.kept }
+    ensures read { read.new ≡ state.rows }
+    ensures low { low.new ≡ state.low }
+    ensures form { form.new ≡ form_number state.form }
+    ensures phase { phase.new ≡ phase_number state.phase }
+{
+    // By way of a name: Rattle has no proof yet of a field's array that is stored straight.
+    let bytes = state.tail;
+    *tail = bytes;
+    *kept = state.kept as u64;
+    *read = state.rows as u64;
+    *low = state.low;
+    *form = card_pieces::form_number(state.form);
+    *phase = card_pieces::phase_number(state.phase);
 }
 
 // A fresh state for reading a card in pieces.
@@ -339,16 +410,7 @@ pub extern "C" fn rimemagpie_card_begin(
     ensures form { form.new ≡ form_number fresh.form }
     ensures phase { phase.new ≡ phase_number fresh.phase }
 {
-    let state = card_pieces::begin();
-    let zeros = state.tail;
-    *tail = zeros;
-    *kept = state.kept as u64;
-    *read = state.rows as u64;
-    *low = state.low;
-    let rows_form = state.form;
-    *form = card_pieces::form_number(rows_form);
-    let stands = state.phase;
-    *phase = card_pieces::phase_number(stands);
+    hand_over(card_pieces::begin(), tail, kept, read, low, form, phase);
 }
 
 // Reads a piece of a card into spare rows, and changes the state.
@@ -394,30 +456,24 @@ pub extern "C" fn rimemagpie_card_feed(
         let st = state_of tail.old kept.old read.old low.old form.old phase.old in
         phase.new ≡ phase_place b st piece.now phase.old }
 {
-    if !card_pieces::are_numbers(*form, *phase) {
+    let Some(state) = state_of(tail, *kept, *read, *low, *form, *phase) else {
         return refusal::number(Refusal::UnsoundBook);
-    }
-    let held = *tail;
-    let state = Reader {
-        tail: held,
-        kept: *kept as usize,
-        rows: *read as usize,
-        low: *low,
-        form: card_pieces::form_numbered(*form),
-        phase: card_pieces::phase_numbered(*phase),
     };
-    let fed = card_pieces::feed(state, piece, ids, lengths, store, marks, received, sent);
-    let after = fed.state;
-    let left = after.tail;
-    *tail = left;
-    *kept = after.kept as u64;
-    *read = after.rows as u64;
-    *low = after.low;
-    let rows_form = after.form;
-    *form = card_pieces::form_number(rows_form);
-    let stands = after.phase;
-    *phase = card_pieces::phase_number(stands);
-    fed.number
+    let mut room = LentRoom {
+        ids,
+        lengths,
+        store,
+        marks,
+        received,
+        sent,
+    };
+    match card_pieces::feed(state, piece, &mut room) {
+        Ok(after) => {
+            hand_over(after, tail, kept, read, low, form, phase);
+            0
+        }
+        Err(refusal) => refusal::number(refusal),
+    }
 }
 
 // The end of a card read in pieces: copies the spare rows over to the book.
@@ -447,7 +503,7 @@ pub extern "C" fn rimemagpie_card_finish(
         spare_received.now spare_sent.now 0 in
         let c = book_of ids.old lengths.old store.old marks.old received.old sent.old 0 in
         let st = state_of tail.now kept read low form phase in
-        result ≡ read_number (ended_answer b st c) }
+        result ≡ result_number (ended_answer b st c) }
     ensures book { let b = book_of spare_ids.now spare_lengths.now spare_store.now spare_marks.now
         spare_received.now spare_sent.now 0 in
         let c = book_of ids.old lengths.old store.old marks.old received.old sent.old 0 in
@@ -460,39 +516,32 @@ pub extern "C" fn rimemagpie_card_finish(
         let st = state_of tail.now kept read low form phase in
         rows.new ≡ rows_place rows.old (ended_answer b st c) }
 {
-    if !card_pieces::are_numbers(form, phase) {
+    let Some(state) = state_of(tail, kept, read, low, form, phase) else {
         return refusal::number(Refusal::UnsoundBook);
-    }
-    let held = *tail;
-    let state = Reader {
-        tail: held,
-        kept: kept as usize,
-        rows: read as usize,
-        low,
-        form: card_pieces::form_numbered(form),
-        phase: card_pieces::phase_numbered(phase),
     };
-    let answer = card_pieces::finish(
-        state,
-        spare_ids,
-        spare_lengths,
-        spare_store,
-        spare_marks,
-        spare_received,
-        spare_sent,
+    let spare = LentBook {
+        ids: spare_ids,
+        lengths: spare_lengths,
+        store: spare_store,
+        marks: spare_marks,
+        received: spare_received,
+        sent: spare_sent,
+        rows: 0,
+    };
+    let mut room = LentRoom {
         ids,
         lengths,
         store,
         marks,
         received,
         sent,
-    );
-    match answer {
-        ReadAnswer::Rows(given) => {
+    };
+    match card_pieces::finish(state, spare, &mut room) {
+        Ok(given) => {
             *rows = given as u64;
             0
         }
-        ReadAnswer::Refused(refusal) => refusal::number(refusal),
+        Err(refusal) => refusal::number(refusal),
     }
 }
 
@@ -504,16 +553,15 @@ pub extern "C" fn rimemagpie_compare(
     room: &mut [u8],
     size: &mut u64,
 ) -> u8
-    ensures number { result ≡ compared_number (compare_of first.now second.now (length room.old)) }
+    ensures number { result ≡ result_number (compare_of first.now second.now (length room.old)) }
     ensures room { room.new ≡ room_compared first.now second.now room.old }
     ensures size { size.new ≡ compared_place size.old (compare_of first.now second.now (length room.old)) }
 {
-    let answer = comparison::compare(first, second, room);
-    match answer {
-        Compared::Size(lines) => {
+    match comparison::compare(first, second, room) {
+        Ok(lines) => {
             *size = lines as u64;
             0
         }
-        Compared::Refused(refusal) => refusal::number(refusal),
+        Err(refusal) => refusal::number(refusal),
     }
 }

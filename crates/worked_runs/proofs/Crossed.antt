@@ -1,7 +1,7 @@
 -- specs/Crossed.antt, computed as in proofs/Shuffled.antt; a book that differs in secret B by the law of demands/specs/History.antt.
 use mathlib.Core.Path.{◌≡◌, refl, sym, ap, ap₂, subst, ◌∙◌}
 use mathlib.Core.Bool.{true, false, true≢false}
-use mathlib.Core.Option.{some, some-injective}
+use Rattle.std.proofs.lemmas.Option.{same_Some}
 use mathlib.Core.List.{List, [], ◌∷◌, ◌++◌}
 use Prim.Native.Nat.{ℕ}
 use native.Mathlib.Omega.{arith}
@@ -14,7 +14,6 @@ use Rattle.dhcp_message.specs.Relay.{added, replaced, removed, Permitted, unchan
 use Rattle.dhcp_message.proofs.Replays.{counter_old}
 use Rattle.key_book.specs.Book.{Book, Sound, row_of, key_of}
 use Rattle.key_book.proofs.Says.{sound_says}
-use Rattle.delayed_auth.specs.declared.Verdict.TheVariants.{Refused}
 use Rattle.delayed_auth.specs.Check.{new_to, check_of}
 use Rattle.demands.specs.Accepts.{Accepts}
 use Rattle.demands.specs.Demand3.{check, state_at, Carried, same, relayed, no_check, Rearranged}
@@ -29,6 +28,7 @@ use Rattle.worked_runs.specs.Crossed.{id_a, book, changed_b, auth_a, auth_b, rel
 use Rattle.worked_runs.specs.Crossed.{forged, stale, first, second, place, Crossed}
 use Rattle.demands.proofs.Computing.{computing}
 use Rattle.worked_runs.proofs.Network.{◌and◌, order_of, before, before_all, in_order, rearranged, relays}
+use Rattle.std.specs.Prelude.{Err, Some}
 
 is_sound : Sound book
 unfolding computing
@@ -40,11 +40,11 @@ changed_sound : Sound changed_b
 unfolding computing
 changed_sound = (sound_says changed_b).0 refl
 
-pub name_a : named (plain (auth_a ++ relay_info)) ≡ some id_a
+pub name_a : named (plain (auth_a ++ relay_info)) ≡ Some id_a
 unfolding computing
 name_a = refl
 
-row_a : row_of book id_a ≡ some 0
+row_a : row_of book id_a ≡ Some 0
 unfolding computing
 row_a = refl
 
@@ -53,8 +53,8 @@ unfolding computing
 key_a = refl
 
 -- what holds of secret A's row holds of the row found
-pub in_row : (P : ℕ → Type 0) → P 0 → (k : ℕ) → row_of book id_a ≡ some k → P k
-in_row P h k e = subst P (some-injective _ _ (sym row_a ∙ e)) h
+pub in_row : (P : ℕ → Type 0) → P 0 → (k : ℕ) → row_of book id_a ≡ Some k → P k
+in_row P h k e = subst P (same_Some _ _ (sym row_a ∙ e)) h
 
 others_differ : OnlyOthersDiffer id_a book changed_b
 others_differ = record {
@@ -98,7 +98,7 @@ relayed_b = relayed replaced_b.passes (changed replaced_b unchanged)
 
 -- ---- the checks put in are not accepted there
 
-wrong_mac : check_of book forged ≡ Refused WrongMac
+wrong_mac : check_of book forged ≡ Err WrongMac
 unfolding computing
 wrong_mac = refl
 
@@ -114,7 +114,7 @@ stale_on b w h k c a =
     let said : says 10 id_a some_mac ≡ says c a.id a.mac = sym stale_says ∙ a.form in
     let counter : 10 ≡ c = cc in
     let name : id_a ≡ a.id = cc in
-    let here : 0 ≡ k = some-injective _ _ (sym row_a ∙ sym (row_kept book b w id_a) ∙ ap (row_of b) name ∙ a.secret) in
+    let here : 0 ≡ k = same_Some _ _ (sym row_a ∙ sym (row_kept book b w id_a) ∙ ap (row_of b) name ∙ a.secret) in
     true≢false (sym a.new ∙ ap₂ (new_to b) (sym here) (sym counter) ∙ h)
 
 -- a counter that is not new to secret A at the start is never new to it

@@ -1,7 +1,7 @@
 -- Books that differ in what no answer depends on: the two rows in use are looked at one by one, and the row of secret A is row 0.
 use mathlib.Core.Path.{◌≡◌, refl, sym, ap, ◌∙◌}
 use mathlib.Core.List.{List, ◌++◌}
-use mathlib.Core.Option.{some-injective}
+use Rattle.std.proofs.lemmas.Option.{same_Some}
 use Prim.Native.Nat.{ℕ, zero, suc, ◌+◌, ◌*◌, ◌<◌}
 use native.Mathlib.Omega.{arith}
 use lib.ListN.{get_or}
@@ -72,7 +72,7 @@ secrets = record { soundness = refl; ids = refl }
 -- a message that names secret A names row 0
 of_named : (P : ℕ → Type 0) → P 0 → (k : ℕ) → Names book (plain (auth_a ++ relay_info)) k → P k
 of_named P h k n =
-    let same : id_a ≡ n.id = some-injective _ _ (sym name_a ∙ n.form) in
+    let same : id_a ≡ n.id = same_Some _ _ (sym name_a ∙ n.form) in
     in_row P h k (ap (row_of book) same ∙ n.secret)
 
 pub other_books : OtherBooks

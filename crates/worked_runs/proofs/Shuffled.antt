@@ -10,9 +10,7 @@ use Rattle.dhcp_message.specs.Options.{Token, opt}
 use Rattle.dhcp_message.specs.Relay.{kept, added, Permitted, unchanged, changed}
 use Rattle.key_book.specs.Book.{Book, Sound}
 use Rattle.key_book.proofs.Says.{sound_says}
-use Rattle.delayed_auth.specs.declared.Verdict.TheVariants.{Refused}
 use Rattle.delayed_auth.specs.Check.{check_of}
-use Rattle.forcerenew.specs.declared.Judged.TheVariants.{Refused as Unheeded}
 use Rattle.forcerenew.specs.Rows.{Servers}
 use Rattle.forcerenew.specs.Judging.{judge_of, judged_of}
 use Rattle.demands.specs.Accepts.{Accepts, Heeds}
@@ -25,6 +23,7 @@ use Rattle.worked_runs.specs.Shuffled.{book, servers, start, auth7, auth8, ended
 use Rattle.worked_runs.specs.Shuffled.{ack, renewal, first, second, place, Shuffled}
 use Rattle.demands.proofs.Computing.{computing}
 use Rattle.worked_runs.proofs.Network.{◌and◌, order_of, before, before_all, in_order, rearranged, relays}
+use Rattle.std.specs.Prelude.{Err}
 
 is_sound : Sound book
 unfolding computing
@@ -77,7 +76,7 @@ after_seal_sound : Sound after_seal
 unfolding computing after_seal
 after_seal_sound = (sound_says after_seal).0 refl
 
-wrong_mac : check_of after_seal forged ≡ Refused WrongMac
+wrong_mac : check_of after_seal forged ≡ Err WrongMac
 unfolding computing after_seal
 wrong_mac = refl
 
@@ -89,11 +88,11 @@ not_accepted k c a = let e = end_check after_seal forged _ (check_accepts after_
 after_ack : Servers
 after_ack = rows_after servers (judge 0 ack)
 
-no_nonce : judged_of (judge_of servers 0 renewal) ≡ Unheeded NoNonce
+no_nonce : judged_of (judge_of servers 0 renewal) ≡ Err NoNonce
 unfolding computing
 no_nonce = refl
 
-other_nonce : judged_of (judge_of after_ack 1 renewal) ≡ Unheeded WrongMac
+other_nonce : judged_of (judge_of after_ack 1 renewal) ≡ Err WrongMac
 unfolding computing after_ack
 other_nonce = refl
 

@@ -1,10 +1,8 @@
 -- Three calls as a run of demand 3: a check, a seal, and the check again. No server rows are lent.
 use Rattle.std.specs.Prelude.{ℕ, List, [], ◌∷◌}
+use Rattle.refusal.specs.Number.{result_number}
 use Rattle.key_book.specs.Book.{Book}
-use Rattle.delayed_auth.specs.Check.{verdict_number}
-use Rattle.delayed_auth.specs.Seal.{sealing_number}
 use Rattle.forcerenew.specs.Rows.{servers_of}
-use Rattle.forcerenew.specs.Judging.{judged_number}
 use Rattle.demands.specs.Demand3.{Step, check, seal, State, Answer, checked, wrote, judged}
 
 -- a book with no server rows
@@ -16,9 +14,9 @@ again message id buffer = check message ∷ seal id buffer ∷ check message ∷
 
 -- the number of a step's answer
 abbrev pub answer_number : Answer → ℕ
-answer_number (checked v) = verdict_number v
-answer_number (wrote s buffer) = sealing_number s
-answer_number (judged v) = judged_number v
+answer_number (checked v) = result_number v
+answer_number (wrote s buffer) = result_number s
+answer_number (judged v) = result_number v
 
 -- the buffer of the first seal among the answers
 abbrev pub buffer_of : List Answer → List ℕ

@@ -3,18 +3,17 @@
 -- before it in one message and was replaced before option 90 in another, and a check was put in before the first step and behind the last. A message
 -- with option 82 before option 90 is sealed. The header's bytes are all different, and so are those of ids and large counters. The MACs are those of
 -- an outside implementation of HMAC-MD5. Its one proof is proofs/Crossed.antt.
-use Rattle.std.specs.Prelude.{ℕ, zero, suc, ◌≡◌, List, [], ◌∷◌, ◌++◌}
+use Rattle.std.specs.Prelude.{ℕ, zero, suc, ◌≡◌, List, [], ◌∷◌, ◌++◌, Err, Ok}
 use Rattle.refusal.specs.declared.Refusal.TheVariants.{MessageSize, NoAuthentication, UnknownSecret}
 use Rattle.dhcp_message.specs.Layout.{magic_cookie}
 use Rattle.dhcp_message.specs.Image.{head_with}
 use Rattle.dhcp_message.specs.Bench.{some_mac}
 use Rattle.octets.specs.Bytes.{zeros, up_from}
 use Rattle.key_book.specs.Book.{Book, Sound, book_of}
-use Rattle.delayed_auth.specs.declared.Verdict.TheVariants.{Accepted, Refused}
-use Rattle.delayed_auth.specs.declared.Sealing.TheVariants.{Sealed, Unsealed}
 use Rattle.demands.specs.Demand3.{Step, check, seal, checked, wrote, answers, ending, Rearranged, SameRun}
 use Rattle.demands.specs.History.{accepted_in, seals_in, Concerns, OnlyOthersDiffer, SameFor}
 use Rattle.worked_runs.specs.Calls.{alone}
+use Rattle.delayed_auth.specs.Check.{accepting}
 
 -- the two secrets, and their counters: bytes 1 to 4 and 5 to 8, received 1 to 8, sent 17 to 22, 23 and 255
 abbrev pub id_a : ℕ
@@ -127,8 +126,8 @@ pub record Crossed : Type 0 where
   pub is_sound : Sound book
   -- in the first run two seals are done and one is refused, its buffer as it was; two checks name no secret; two are accepted
   pub first_answers : answers (alone book) first
-      ≡ wrote (Sealed 4) sealed_a ∷ wrote (Sealed 1230066625199609856) sealed_b ∷ wrote (Unsealed UnknownSecret) to_seal
-      ∷ checked (Refused MessageSize) ∷ checked (Refused NoAuthentication) ∷ checked (Accepted 0 counter_a) ∷ checked (Accepted 1 20) ∷ []
+      ≡ wrote (Ok 4) sealed_a ∷ wrote (Ok 1230066625199609856) sealed_b ∷ wrote (Err UnknownSecret) to_seal
+      ∷ checked (Err MessageSize) ∷ checked (Err NoAuthentication) ∷ checked (accepting 0 counter_a) ∷ checked (accepting 1 20) ∷ []
   pub first_marks : (ending (alone book) first).book.marks ≡ 1 ∷ 1 ∷ []
   pub first_received : (ending (alone book) first).book.received ≡ counter_a ∷ 20 ∷ []
   pub first_sent : (ending (alone book) first).book.sent ≡ 4 ∷ 1230066625199609856 ∷ []

@@ -2,12 +2,13 @@
 -- demands/specs/Bench.antt, 14 in md5_digest/specs/Limits.antt, 15 and 18 in card_laws/specs/Examples.antt, 19 to 21 in forcerenew/specs/Examples.antt,
 -- and 22 in comparison/specs/Examples.antt. The one proof is proofs/MoreNumbers.antt.
 use Rattle.std.specs.Prelude.{◌≡◌, [], ◌∷◌}
+use Rattle.refusal.specs.Number.{result_number}
 use Rattle.key_book.specs.Book.{Book, book_of}
-use Rattle.delayed_auth.specs.Check.{check_of, verdict_number}
+use Rattle.delayed_auth.specs.Check.{check_of}
 use Rattle.delayed_auth.specs.Seal.{seal_of, outcome_number}
 use Rattle.card_laws.specs.Examples.{book_b, card_b}
-use Rattle.book_card.specs.Reading.{read_of, read_number}
-use Rattle.book_card.specs.Writing.{write_of, write_number}
+use Rattle.book_card.specs.Reading.{read_of}
+use Rattle.book_card.specs.Writing.{write_of}
 use Rattle.demands.specs.Bench.{forged_message}
 
 -- no room for a row, and none in use
@@ -20,8 +21,8 @@ spent_b = book_of book_b.ids book_b.lengths book_b.store book_b.marks book_b.rec
 
 pub record MoreNumbers : Type 0 where
   -- a row in use that there is no room for
-  pub number_1 : verdict_number (check_of (book_of [] [] [] [] [] [] 1) (forged_message 11 7)) ≡ 1
+  pub number_1 : result_number (check_of (book_of [] [] [] [] [] [] 1) (forged_message 11 7)) ≡ 1
   pub number_13 : outcome_number (seal_of spent_b 7 (forged_message 11 7)) ≡ 13
   -- a byte less than the card of B has
-  pub number_16 : write_number (write_of book_b 34) ≡ 16
-  pub number_17 : read_number (read_of no_room card_b) ≡ 17
+  pub number_16 : result_number (write_of book_b 34) ≡ 16
+  pub number_17 : result_number (read_of no_room card_b) ≡ 17

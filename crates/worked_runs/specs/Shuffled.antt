@@ -5,20 +5,19 @@
 -- again have gone past checks and the seal in their order, the ACK shown for the other row has gone past them, and the FORCERENEW was put in before the
 -- ACK and for the other row.
 -- The MACs are those of an outside implementation of HMAC-MD5. Its one proof is proofs/Shuffled.antt.
-use Rattle.std.specs.Prelude.{ℕ, ◌≡◌, List, [], ◌∷◌, ◌++◌, get_or}
+use Rattle.std.specs.Prelude.{ℕ, ◌≡◌, List, [], ◌∷◌, ◌++◌, get_or, Err, Ok}
 use Rattle.refusal.specs.declared.Refusal.TheVariants.{Replay, WrongMac, NoNonce}
 use Rattle.dhcp_message.specs.Layout.{cookie_at, magic_cookie}
 use Rattle.octets.specs.Bytes.{zeros, up_from}
 use Rattle.dhcp_message.specs.Image.{head_with}
 use Rattle.dhcp_message.specs.Bench.{message_of, full_auth, some_mac}
 use Rattle.key_book.specs.Book.{Book, Sound, book_of}
-use Rattle.delayed_auth.specs.declared.Verdict.TheVariants.{Accepted, Refused}
-use Rattle.delayed_auth.specs.declared.Sealing.TheVariants.{Sealed}
 use Rattle.delayed_auth.specs.Check.{check_of}
-use Rattle.forcerenew.specs.declared.Judged.TheVariants.{Accepted as Heeded, Refused as Unheeded}
 use Rattle.forcerenew.specs.Rows.{Servers, servers_of}
 use Rattle.forcerenew.specs.Judging.{judge_of, judged_of}
 use Rattle.demands.specs.Demand3.{Step, check, seal, judge, State, checked, wrote, judged, book_after, rows_after, answers, ending, Rearranged, SameRun}
+use Rattle.delayed_auth.specs.Check.{accepting}
+use Rattle.forcerenew.specs.Judging.{heeding}
 
 -- Book B (docs/RULES.md, 'Bench examples') with a second row: id 8, not heard, sent 3, key 5, 6, 7, 8
 abbrev pub book : Book
@@ -104,18 +103,18 @@ pub record Shuffled : Type 0 where
   -- in the first run both checks are accepted, one with counter 0, the seal writes counter 4 under id 7, and the messages checked again are replays;
   -- the ACK and the FORCERENEW are accepted, the FORCERENEW shown again is a replay, and the ACK is accepted again and for the other row
   pub first_answers : answers start first
-      ≡ checked (Accepted 0 11) ∷ judged (Heeded 1 9) ∷ checked (Accepted 1 0) ∷ judged (Heeded 2 6) ∷ wrote (Sealed 4) sealed_bytes
-      ∷ checked (Refused Replay) ∷ judged (Unheeded Replay) ∷ judged (Heeded 1 9) ∷ judged (Heeded 1 9) ∷ checked (Refused Replay) ∷ []
+      ≡ checked (accepting 0 11) ∷ judged (heeding 1 9) ∷ checked (accepting 1 0) ∷ judged (heeding 2 6) ∷ wrote (Ok 4) sealed_bytes
+      ∷ checked (Err Replay) ∷ judged (Err Replay) ∷ judged (heeding 1 9) ∷ judged (heeding 1 9) ∷ checked (Err Replay) ∷ []
   pub first_marks : (ending start first).book.marks ≡ 1 ∷ 1 ∷ []
   pub first_received : (ending start first).book.received ≡ 11 ∷ 0 ∷ []
   pub first_sent : (ending start first).book.sent ≡ 4 ∷ 3 ∷ []
   -- both rows have the nonce; the ACK shown again left the first heard with the FORCERENEW's counter, and the other, to which the nonce was new, begins anew
   pub first_servers : (ending start first).servers ≡ servers_of (nonce ++ nonce) (6 ∷ 0 ∷ []) (2 ∷ 1 ∷ [])
   -- the check put in is not refused as a replay where its row is not heard: the MAC decides
-  pub forged_there : check_of (book_after book (seal 7 to_seal)) forged ≡ Refused WrongMac
+  pub forged_there : check_of (book_after book (seal 7 to_seal)) forged ≡ Err WrongMac
   -- the FORCERENEW is not believed where it was put in: before the ACK there is no nonce; to the other row its counter is new, and the MAC decides
-  pub renewal_early : judged_of (judge_of servers 0 renewal) ≡ Unheeded NoNonce
-  pub renewal_elsewhere : judged_of (judge_of (rows_after servers (judge 0 ack)) 1 renewal) ≡ Unheeded WrongMac
+  pub renewal_early : judged_of (judge_of servers 0 renewal) ≡ Err NoNonce
+  pub renewal_elsewhere : judged_of (judge_of (rows_after servers (judge 0 ack)) 1 renewal) ≡ Err WrongMac
   -- the network can make the second run of it
   pub made : Rearranged start first second place
   -- so demand 3 says that its answers and its end are the same

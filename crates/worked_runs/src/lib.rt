@@ -6,43 +6,20 @@ ghost use Rattle.std.specs.Prelude.{◌≡◌, [], ◌∷◌, map};
 ghost use Rattle.refusal.specs.Number.{number_of, done};
 ghost use Rattle.refusal.specs.declared.Refusal.TheVariants.{Replay};
 ghost use Rattle.key_book.specs.Book.{book_of};
-ghost use Rattle.delayed_auth.specs.Check.{verdict_number};
-ghost use Rattle.delayed_auth.specs.Seal.{sealing_number};
 ghost use Rattle.demands.specs.Demand3.{answers, ending};
 ghost use Rattle.worked_runs.specs.Calls.{alone, again, answer_number, buffer_of};
 
-use delayed_auth::{Sealing, Verdict};
-
-// The numbers of three calls.
-#[derive(Clone, Copy)]
+// The numbers of three calls, as C has them.
+#[derive(Clone, Copy, Debug, PartialEq, Eq)]
 pub struct Numbers {
     pub first: u8,
     pub sealed: u8,
     pub second: u8,
 }
 
-// The number of a check's answer.
-fn verdict_number(verdict: Verdict) -> u8
-    ensures { result ≡ verdict_number verdict }
-{
-    match verdict {
-        Verdict::Accepted(_, _) => 0,
-        Verdict::Refused(refusal) => refusal::number(refusal),
-    }
-}
-
-// The number of a seal's answer.
-fn sealing_number(sealing: Sealing) -> u8
-    ensures { result ≡ sealing_number sealing }
-{
-    match sealing {
-        Sealing::Sealed(_) => 0,
-        Sealing::Unsealed(refusal) => refusal::number(refusal),
-    }
-}
-
-// Checks a message, seals another, and checks the first message again. The three calls make up the run `again` of demand 3: their numbers, the
-// sealed buffer, the marks and the counters are the run's; and where the first check accepts, the second refuses with 11.
+// Checks a message, seals another, and checks the first message again. The three calls make up the run `again` of demand 3: their numbers, the sealed buffer,
+// the marks and the counters are the run's; and where the first check accepts, the second refuses with 11. The lists come one by one, as check and seal take
+// them.
 pub fn check_again(
     ids: &[u32],
     lengths: &[u8],
@@ -71,8 +48,8 @@ pub fn check_again(
     let sealing = delayed_auth::seal(ids, lengths, store, marks, received, sent, rows, id, buffer);
     let second = delayed_auth::check(ids, lengths, store, marks, received, sent, rows, message);
     Numbers {
-        first: verdict_number(first),
-        sealed: sealing_number(sealing),
-        second: verdict_number(second),
+        first: refusal::result_number(first),
+        sealed: refusal::result_number(sealing),
+        second: refusal::result_number(second),
     }
 }

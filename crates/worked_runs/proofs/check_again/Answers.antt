@@ -8,5 +8,5 @@ returns c = let g = make_up c.args.ids.now c.args.lengths.now c.args.store.now c
     c.args.buffer.now _ _ _ _ _ _ _ _ _ _ _ _
     c.check-first.ensures.answer c.check-first.ensures.marked c.check-first.ensures.stored c.seal-sealing.ensures.answer c.seal-sealing.ensures.sealed
     c.seal-sealing.ensures.stored c.check-second.ensures.answer c.check-second.ensures.marked c.check-second.ensures.stored
-    c.verdict_number.ensures c.sealing_number.ensures c.verdict_number-2.ensures in
+    c.result_number.ensures c.result_number-2.ensures c.result_number-3.ensures in
     record { numbers = g.0; sealed = g.1; marks = g.2; received = g.3; sent = g.4; replay = g.5 }
