@@ -5,7 +5,6 @@ use mathlib.Core.Path.{◌≡◌, refl, sym, ap, ◌∙◌}
 use mathlib.Core.Logic.{◌↔◌, ◌≢◌, ◌⊎◌, inl, inr, ⊎_elim}
 use mathlib.Core.Bool.{Bool, true, false, cond, not, ◌&&◌, ◌||◌, true≢false, false≢true, and-eq-true_iff}
 use mathlib.Core.List.{List}
-use mathlib.Core.Option.{none, some}
 use native.Mathlib.Omega.{arith}
 use borrow.Author.Tests.{le-leb, leb-true, eq-eqb, ne_eqb, eqb-true, not-true, not-false}
 use lib.Dec.{leb, eqb}
@@ -16,8 +15,10 @@ use Rattle.capture.specs.Layout.{udp_header_size, source_at, destination_at, ser
 use Rattle.capture.specs.Laws.{DhcpPort}
 use Rattle.capture.specs.Frame.{field_at, is_whole_udp, header_length, total_length, lengths_fit, udp_length, is_dhcp_port, is_dhcp, datagram_place}
 use Rattle.capture.specs.Frame.{place_of, bytes_at, payload_of}
+use Rattle.capture.specs.Frame.{placed_at}
 use Rattle.capture.specs.declared.Payload.{Payload}
-use Rattle.capture.specs.declared.Payload.TheVariants.{Skipped, At}
+use Rattle.std.specs.Prelude.{None, Option, Some}
+use Rattle.std.proofs.lemmas.Option.{same_Some, none-some}
 
 -- ---- tests and facts
 
@@ -30,6 +31,13 @@ eqb_says m n = (eqb-true m n, eq-eqb m n)
 either_says : {P Q : Type 0} (a b : Bool) → (a ≡ true) ↔ P → (b ≡ true) ↔ Q → ((a || b) ≡ true) ↔ (P ⊎ Q)
 either_says true b p q = (λ e. inl (p.0 refl), λ s. refl)
 either_says false b p q = (λ e. inr (q.0 e), ⊎_elim (λ x. absurd (false≢true (p.1 x))) q.1)
+
+-- a conjunction by its first part
+pub and_where_true : {a : Bool} (b : Bool) → a ≡ true → b ≡ (a && b)
+and_where_true b e = rw e
+
+pub and_where_false : {a : Bool} (b : Bool) → a ≡ false → a ≡ (a && b)
+and_where_false b e = rw e
 
 refuted : {P : Type 0} (t : Bool) → (t ≡ true) ↔ P → (P → ⊥) → t ≡ false
 refuted true s n = absurd (n (s.0 refl))
@@ -69,15 +77,23 @@ module _ (frame : List ℕ) where
     λ w. simp (and-eq-true_iff, eqb_says) (((w.type, w.version), w.protocol), w.fragment),
   )
 
-  pub not_whole : (WholeUdp frame → ⊥) → false ≡ is_whole_udp frame
-  not_whole n = sym (refuted _ whole_udp_says n)
+  -- the first two tests, and the first three
+  abbrev pub type_and_version : Bool
+  type_and_version = eqb (field_at frame ether_type_at) ether_ipv4 && eqb (get_or frame packet_at 0 / 16) ip_version
 
-  -- where the last test decides
-  pub whole_by_fragment : field_at frame ether_type_at ≡ ether_ipv4 → get_or frame packet_at 0 / 16 ≡ ip_version → get_or frame
-      (packet_at + protocol_at) 0 ≡ udp
-      → (fragment : ℕ) → fragment ≡ field_at frame (packet_at + fragment_at) → eqb (fragment % fragment_below) 0 ≡ is_whole_udp frame
-  unfolding is_whole_udp
-  whole_by_fragment t v p fragment e = rw (e, eq-eqb _ _ t, eq-eqb _ _ v, eq-eqb _ _ p)
+  abbrev pub before_fragment : Bool
+  before_fragment = type_and_version && eqb (get_or frame (packet_at + protocol_at) 0) udp
+
+  module _ (t : Bool) (e : t ≡ before_fragment) where
+    pub not_whole : t ≡ false → t ≡ is_whole_udp frame
+    unfolding is_whole_udp
+    not_whole h = rw (sym e, h)
+
+    -- where the last test decides
+    pub whole_by_fragment : t ≡ true → (fragment : ℕ) → fragment ≡ field_at frame (packet_at + fragment_at)
+        → eqb (fragment % fragment_below) 0 ≡ is_whole_udp frame
+    unfolding is_whole_udp
+    whole_by_fragment h fragment f = rw (sym e, h, f)
 
   lengths_say : (lengths_fit frame ≡ true) ↔ LengthsFit frame
   unfolding lengths_fit
@@ -117,12 +133,12 @@ module _ (frame : List ℕ) (at room : ℕ) where
     λ d. simp (and-eq-true_iff, leb_says, ports_say) ((d.header_covered, d.within), d.port),
   )
 
-  pub datagram_at_lem : (size : ℕ) → size ≡ udp_length frame at → Dhcp frame at room → At (at + udp_header_size) (size - udp_header_size) ≡
+  pub datagram_at_lem : (size : ℕ) → size ≡ udp_length frame at → Dhcp frame at room → placed_at (at + udp_header_size) (size - udp_header_size) ≡
       datagram_place frame at room
   unfolding datagram_place
   datagram_at_lem size e d = rw (e, dhcp_says.1 d)
 
-  pub datagram_skipped : (Dhcp frame at room → ⊥) → Skipped ≡ datagram_place frame at room
+  pub datagram_skipped : (Dhcp frame at room → ⊥) → None ≡ datagram_place frame at room
   unfolding datagram_place
   datagram_skipped n = rw (refuted _ dhcp_says n)
 
@@ -159,7 +175,7 @@ pub record Placed (frame : List ℕ) (original at size : ℕ) : Type 0 where
   pub at_is : payload_at frame ≡ at
   pub size_is : payload_size frame ≡ size
 
-nested : (t u : Bool) (p q : Payload) → cond t (cond u p q) q ≡ cond (t && u) p q
+nested : (t u : Bool) (p q : Option Payload) → cond t (cond u p q) q ≡ cond (t && u) p q
 nested true u p q = refl
 nested false u p q = refl
 
@@ -184,11 +200,11 @@ module _ (frame : List ℕ) (original : ℕ) where
         λ h. both.1 (fits_says.1 h.fits, d.1 h.dhcp),
       )
 
-  place_is : place_of frame original ≡ cond (fitting && carried) (At (payload_at frame) (payload_size frame)) Skipped
+  place_is : place_of frame original ≡ cond (fitting && carried) (placed_at (payload_at frame) (payload_size frame)) None
   unfolding place_of datagram_place
-  place_is = nested fitting carried (At (payload_at frame) (payload_size frame)) Skipped
+  place_is = nested fitting carried (placed_at (payload_at frame) (payload_size frame)) None
 
-  pub place_skipped : (HasPayload frame original → ⊥) → Skipped ≡ place_of frame original
+  pub place_skipped : (HasPayload frame original → ⊥) → None ≡ place_of frame original
   place_skipped n = sym (place_is ∙ rw (refuted _ payload_test n))
 
   pub place_datagram : (total : ℕ) → total ≡ total_length frame → Fits frame original
@@ -197,38 +213,40 @@ module _ (frame : List ℕ) (original : ℕ) where
   place_datagram total e f = rw (e, fits_says.1 f)
 
   module _ (at size : ℕ) where
-    placed : (t : Bool) → (t ≡ true) ↔ HasPayload frame original → cond t (At (payload_at frame) (payload_size frame)) Skipped ≡ At at size
+    placed : (t : Bool) → (t ≡ true) ↔ HasPayload frame original → cond t (placed_at (payload_at frame) (payload_size frame)) None ≡ placed_at at size
         → Placed frame original at size
-    placed true h e = record { has = h.0 refl; at_is = cc; size_is = cc }
-    placed false h e = absurd (let z : ◌≡◌ {A = ℕ} 0 1 = cc in omega arith)
+    placed true h e =
+        let p = same_Some _ _ e in
+        record { has = h.0 refl; at_is = ap (λ (q : Payload). q.at) p; size_is = ap (λ (q : Payload). q.size) p }
+    placed false h e = absurd (none-some _ e)
 
-    pub place_says : (place_of frame original ≡ At at size) ↔ Placed frame original at size
+    pub place_says : (place_of frame original ≡ placed_at at size) ↔ Placed frame original at size
     place_says = (λ e. placed _ payload_test (sym place_is ∙ e), λ p. place_is ∙ rw (payload_test.1 p.has, p.at_is, p.size_is))
 
-    pub place_within : place_of frame original ≡ At at size → at + size ≤ length frame
+    pub place_within : place_of frame original ≡ placed_at at size → at + size ≤ length frame
     place_within e = let p = place_says.0 e in omega arith
 
 -- its bytes, for callers and for `PayloadSays` (Payloads.antt)
 module _ (frame : List ℕ) (original : ℕ) where
-  pub payload_at_lem : (at size : ℕ) → place_of frame original ≡ At at size → payload_of frame original ≡ some (take size (drop at frame))
+  pub payload_at_lem : (at size : ℕ) → place_of frame original ≡ placed_at at size → payload_of frame original ≡ Some (take size (drop at frame))
   unfolding payload_of
   payload_at_lem at size e = ap (bytes_at frame) e
 
-  pub payload_skipped : place_of frame original ≡ Skipped → payload_of frame original ≡ none
+  pub payload_skipped : place_of frame original ≡ None → payload_of frame original ≡ None
   unfolding payload_of
   payload_skipped e = ap (bytes_at frame) e
 
   pub payload_is : (payload : List ℕ)
-      → (payload_of frame original ≡ some payload) ↔ (HasPayload frame original × (take (payload_size frame) (drop (payload_at frame) frame) ≡ payload))
+      → (payload_of frame original ≡ Some payload) ↔ (HasPayload frame original × (take (payload_size frame) (drop (payload_at frame) frame) ≡ payload))
   payload_is payload = (
     λ e. from (place_of frame original) refl e,
-    λ h. payload_at_lem _ _ ((place_says frame original _ _).1 record { has = h.0; at_is = refl; size_is = refl }) ∙ ap some h.1,
+    λ h. payload_at_lem _ _ ((place_says frame original _ _).1 record { has = h.0; at_is = refl; size_is = refl }) ∙ ap Some h.1,
   )
     where
-      from : (p : Payload) → place_of frame original ≡ p → payload_of frame original ≡ some payload
+      from : (p : Option Payload) → place_of frame original ≡ p → payload_of frame original ≡ Some payload
           → HasPayload frame original × (take (payload_size frame) (drop (payload_at frame) frame) ≡ payload)
-      from Skipped e h = absurd (let n = payload_skipped e in let z : ◌≡◌ {A = ℕ} 0 1 = cc in omega arith)
-      from (At at size) e h =
-          let p = (place_says frame original at size).0 e in
-          let s = payload_at_lem at size e in
+      from None e h = absurd (none-some payload (sym (payload_skipped e) ∙ h))
+      from (Some a) e h =
+          let p = (place_says frame original a.at a.size).0 e in
+          let s = payload_at_lem a.at a.size e in
           (p.has, rw (p.at_is, p.size_is) (cc))

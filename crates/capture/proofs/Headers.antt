@@ -18,12 +18,11 @@ use Rattle.capture.specs.Layout.{file_header_size, number_size, magic_at, magic,
 use Rattle.capture.specs.Layout.{frame_most}
 use Rattle.capture.specs.declared.Order.{Order}
 use Rattle.capture.specs.declared.Order.TheVariants.{LowFirst, HighFirst}
-use Rattle.capture.specs.declared.FileHeader.{FileHeader}
-use Rattle.capture.specs.declared.FileHeader.TheVariants.{Other, Ethernet}
-use Rattle.capture.specs.declared.RecordHeader.{RecordHeader}
-use Rattle.capture.specs.declared.RecordHeader.TheVariants.{Cut, Frame}
 use Rattle.capture.specs.Records.{number_at, is_ethernet, file_header_of, record_header_of}
 use Rattle.capture.specs.Laws.{IsCapture, HeaderSays, IsRecord, RecordHeaderSays}
+use Rattle.std.specs.Prelude.{None, Option, Some}
+use Rattle.capture.specs.declared.RecordHeader.{RecordHeader}
+use Rattle.capture.specs.Records.{header_with}
 
 -- ---- a number
 
@@ -65,21 +64,21 @@ module _ (order : Order) (s : List ℕ) where
 -- ---- the file's header
 
 module _ (s : List ℕ) where
-  pub header_short : length s < file_header_size → Other ≡ file_header_of s
+  pub header_short : length s < file_header_size → None ≡ file_header_of s
   unfolding file_header_of
   header_short h = rw (lt-ltb _ file_header_size h)
 
   module _ (h : file_header_size ≤ length s) where
-    pub header_low : is_ethernet LowFirst s ≡ true → Ethernet LowFirst ≡ file_header_of s
+    pub header_low : is_ethernet LowFirst s ≡ true → Some LowFirst ≡ file_header_of s
     unfolding file_header_of
     header_low l = rw (le-ltb _ file_header_size h, l)
 
     module _ (l : is_ethernet LowFirst s ≡ false) where
-      pub header_high : is_ethernet HighFirst s ≡ true → Ethernet HighFirst ≡ file_header_of s
+      pub header_high : is_ethernet HighFirst s ≡ true → Some HighFirst ≡ file_header_of s
       unfolding file_header_of
       header_high k = rw (le-ltb _ file_header_size h, l, k)
 
-      pub header_neither : is_ethernet HighFirst s ≡ false → Other ≡ file_header_of s
+      pub header_neither : is_ethernet HighFirst s ≡ false → None ≡ file_header_of s
       unfolding file_header_of
       header_neither k = rw (le-ltb _ file_header_size h, l, k)
 
@@ -99,16 +98,17 @@ header_in_front p q h =
 -- ---- a record's header
 
 module _ (order : Order) (s : List ℕ) where
-  pub record_short : length s < record_header_size → Cut ≡ record_header_of order s
+  pub record_short : length s < record_header_size → None ≡ record_header_of order s
   unfolding record_header_of
   record_short h = rw (lt-ltb _ record_header_size h)
 
   module _ (h : record_header_size ≤ length s) (captured : ℕ) (e : captured ≡ number_at order s captured_at) where
-    pub record_too_long : frame_most < captured → Cut ≡ record_header_of order s
+    pub record_too_long : frame_most < captured → None ≡ record_header_of order s
     unfolding record_header_of
     record_too_long l = rw (le-ltb _ record_header_size h, sym e, lt-ltb frame_most captured l)
 
-    pub record_frame : captured ≤ frame_most → (original : ℕ) → original ≡ number_at order s original_at → Frame captured original ≡ record_header_of order s
+    pub record_frame : captured ≤ frame_most → (original : ℕ) → original ≡ number_at order s original_at
+        → header_with captured original ≡ record_header_of order s
     unfolding record_header_of
     record_frame l original f = rw (le-ltb _ record_header_size h, sym e, le-ltb frame_most captured l, sym f)
 
@@ -130,16 +130,16 @@ module _ (s : List ℕ) (b : Bytes s) where
       by true e = absurd (one_order s b (omega arith) (ethernet_says LowFirst s e).0 k)
       by false e = e
 
-  capture_read : (order : Order) → IsCapture order s → file_header_of s ≡ Ethernet order
+  capture_read : (order : Order) → IsCapture order s → file_header_of s ≡ Some order
   capture_read LowFirst c = sym (header_low s c.header_there (ethernet_yes LowFirst s c.first_word c.link_type))
   capture_read HighFirst c =
       sym (header_high s c.header_there (not_low c.header_there c.first_word) (ethernet_yes HighFirst s c.first_word c.link_type))
 
 module _ (s : List ℕ) where
   -- what an answer says of the bytes
-  abbrev Told : FileHeader → Type 0
-  Told Other = Unit {0}
-  Told (Ethernet order) = IsCapture order s
+  abbrev Told : Option Order → Type 0
+  Told None = Unit {0}
+  Told (Some order) = IsCapture order s
 
   told : Told (file_header_of s)
   unfolding file_header_of
@@ -151,7 +151,7 @@ module _ (s : List ℕ) where
           record { header_there = ltb-false _ file_header_size h; first_word = w.0; link_type = w.1 }
 
       by : (t u v : Bool) → ltb (length s) file_header_size ≡ t → is_ethernet LowFirst s ≡ u → is_ethernet HighFirst s ≡ v
-          → Told (cond t Other (cond u (Ethernet LowFirst) (cond v (Ethernet HighFirst) Other)))
+          → Told (cond t None (cond u (Some LowFirst) (cond v (Some HighFirst) None)))
       by true u v ht hu hv = tt
       by false true v ht hu hv = is_capture LowFirst ht hu
       by false false true ht hu hv = is_capture HighFirst ht hv
@@ -163,16 +163,16 @@ header_says s b order = (λ e. subst (Told s) e (told s), capture_read s b order
 -- ---- what a record's header says
 
 module _ (order : Order) (s : List ℕ) where
-  abbrev RecordTold : RecordHeader → Type 0
-  RecordTold Cut = (length s < record_header_size) ⊎ (frame_most < number_at order s captured_at)
-  RecordTold (Frame captured original) = IsRecord order s captured original
+  abbrev RecordTold : Option RecordHeader → Type 0
+  RecordTold None = (length s < record_header_size) ⊎ (frame_most < number_at order s captured_at)
+  RecordTold (Some a) = IsRecord order s a.captured a.original
 
   record_told : RecordTold (record_header_of order s)
   unfolding record_header_of
   record_told = by (ltb (length s) record_header_size) (ltb frame_most (number_at order s captured_at)) refl refl
     where
       by : (t u : Bool) → ltb (length s) record_header_size ≡ t → ltb frame_most (number_at order s captured_at) ≡ u
-          → RecordTold (cond t Cut (cond u Cut (Frame (number_at order s captured_at) (number_at order s original_at))))
+          → RecordTold (cond t None (cond u None (header_with (number_at order s captured_at) (number_at order s original_at))))
       by true u ht hu = inl (ltb-true _ record_header_size ht)
       by false true ht hu = inr (ltb-true frame_most _ hu)
       by false false ht hu =
@@ -183,16 +183,16 @@ module _ (order : Order) (s : List ℕ) where
             original_length = refl;
           }
 
-  record_read : {captured original : ℕ} → IsRecord order s captured original → record_header_of order s ≡ Frame captured original
+  record_read : {captured original : ℕ} → IsRecord order s captured original → record_header_of order s ≡ header_with captured original
   record_read r = sym (record_frame order s r.header_there _ (sym r.captured_length) r.captured_most _ (sym r.original_length))
 
-  cut_read : (length s < record_header_size) ⊎ (frame_most < number_at order s captured_at) → record_header_of order s ≡ Cut
+  cut_read : (length s < record_header_size) ⊎ (frame_most < number_at order s captured_at) → record_header_of order s ≡ None
   cut_read (inl h) = sym (record_short order s h)
   cut_read (inr h) = by (record_header_of order s) refl record_told
     where
-      by : (r : RecordHeader) → record_header_of order s ≡ r → RecordTold r → record_header_of order s ≡ Cut
-      by Cut e t = e
-      by (Frame captured original) e t = absurd (let l = t.captured_length in let m = t.captured_most in omega arith)
+      by : (r : Option RecordHeader) → record_header_of order s ≡ r → RecordTold r → record_header_of order s ≡ None
+      by None e t = e
+      by (Some a) e t = absurd (let l = t.captured_length in let m = t.captured_most in omega arith)
 
 pub record_header_says : RecordHeaderSays
 record_header_says = record {

@@ -4,7 +4,6 @@ use mathlib.Core.Path.{◌≡◌, refl, sym, ap, ◌∙◌}
 use mathlib.Core.Logic.{◌⊎◌, inl, inr}
 use mathlib.Core.Bool.{Bool, true, false, cond}
 use mathlib.Core.List.{List, [], ◌++◌}
-use mathlib.Core.Option.{none, some}
 use native.Mathlib.Omega.{arith}
 use borrow.Author.Tests.{eq-eqb, ne_eqb, ltb-true, ltb-false, lt-ltb, le-ltb}
 use lib.Dec.{ltb, eqb}
@@ -12,13 +11,13 @@ use lib.ListN.{length, take, drop, length-drop, length-append}
 use lib.Seq.{take_at, drop_at, drop-drop}
 use Rattle.capture.specs.Layout.{file_header_size, record_header_size, captured_at, original_at, frame_most}
 use Rattle.capture.specs.declared.Order.{Order}
-use Rattle.capture.specs.declared.FileHeader.TheVariants.{Other, Ethernet}
-use Rattle.capture.specs.declared.RecordHeader.{RecordHeader}
-use Rattle.capture.specs.declared.RecordHeader.TheVariants.{Cut, Frame}
 use Rattle.capture.specs.Records.{number_at, file_header_of, record_header_of, Records, at_end, cut_here, before, record_then}
 use Rattle.capture.specs.Records.{records_to, records_from, records_by, records_of}
 use Rattle.capture.specs.Laws.{RecordsSay}
 use Rattle.capture.proofs.Headers.{number_in_front, header_short, header_in_front, record_short, record_too_long, record_frame, record_header_says}
+use Rattle.std.specs.Prelude.{None, Option, Some}
+use Rattle.capture.specs.declared.RecordHeader.{RecordHeader}
+use Rattle.capture.specs.Records.{header_with}
 
 -- ---- the count
 
@@ -29,10 +28,10 @@ unless false x e = e refl
 
 -- a record takes its header at least, and so what comes of the bytes behind it depends on that many fewer
 then_same : (s : List ℕ) (f g : List ℕ → Records) → ((t : List ℕ) → record_header_size + length t ≤ length s → f t ≡ g t)
-    → (h : RecordHeader) → record_then s f h ≡ record_then s g h
-then_same s f g same Cut = refl
-then_same s f g same (Frame captured original) =
-    let size = record_header_size + captured in
+    → (h : Option RecordHeader) → record_then s f h ≡ record_then s g h
+then_same s f g same None = refl
+then_same s f g same (Some a) =
+    let size = record_header_size + a.captured in
     unless (ltb (length s) size) cut_here
     (λ e. let l = ltb-false (length s) size e in let n = length-drop size s in ap (before _) (same (drop size s) (omega arith)))
 
@@ -75,17 +74,17 @@ module _ (order : Order) where
     original = number_at order s original_at
 
     -- by what the record's header says
-    records_by_lem : 0 < length s → (h : RecordHeader) → h ≡ record_header_of order s → records_from order s ≡ record_then s (records_from order) h
+    records_by_lem : 0 < length s → (h : Option RecordHeader) → h ≡ record_header_of order s → records_from order s ≡ record_then s (records_from order) h
     records_by_lem l h e = records_next s l ∙ ap (record_then s (records_from order)) (sym e)
 
     pub records_short : 0 < length s → length s < record_header_size → records_from order s ≡ cut_here
-    records_short l h = records_by_lem l Cut (record_short order s h)
+    records_short l h = records_by_lem l None (record_short order s h)
 
     module _ (h : record_header_size ≤ length s) where
       pub records_too_long : frame_most < captured → records_from order s ≡ cut_here
-      records_too_long l = records_by_lem (omega arith) Cut (record_too_long order s h _ refl l)
+      records_too_long l = records_by_lem (omega arith) None (record_too_long order s h _ refl l)
 
-      pub records_frame : captured ≤ frame_most → records_from order s ≡ record_then s (records_from order) (Frame captured original)
+      pub records_frame : captured ≤ frame_most → records_from order s ≡ record_then s (records_from order) (header_with captured original)
       records_frame l = records_by_lem (omega arith) _ (record_frame order s h _ refl l _ refl)
 
       pub records_cut : length s < record_header_size + captured → records_from order s ≡ cut_here
@@ -121,22 +120,22 @@ module _ (order : Order) where
 
 -- ---- the whole file
 
-pub records_none : (file : List ℕ) → file_header_of file ≡ Other → records_of file ≡ none
+pub records_none : (file : List ℕ) → file_header_of file ≡ None → records_of file ≡ None
 unfolding records_of
 records_none file e = ap (records_by file) e
 
-pub records_of_lem : (file : List ℕ) (order : Order) → file_header_of file ≡ Ethernet order → records_of file ≡ some
+pub records_of_lem : (file : List ℕ) (order : Order) → file_header_of file ≡ Some order → records_of file ≡ Some
     (records_from order (drop file_header_size file))
 unfolding records_of
 records_of_lem file order e = ap (records_by file) e
 
-pub records_behind : (order : Order) (header rest : List ℕ) → length header ≡ file_header_size → file_header_of header ≡ Ethernet order
-    → records_of (header ++ rest) ≡ some (records_from order rest)
+pub records_behind : (order : Order) (header rest : List ℕ) → length header ≡ file_header_size → file_header_of header ≡ Some order
+    → records_of (header ++ rest) ≡ Some (records_from order rest)
 records_behind order header rest h e =
     records_of_lem (header ++ rest) order (header_in_front header rest (omega arith) ∙ e)
-    ∙ ap (λ (s : List ℕ). some (records_from order s)) (drop_at header rest file_header_size h)
+    ∙ ap (λ (s : List ℕ). Some (records_from order s)) (drop_at header rest file_header_size h)
 
-pub records_other : (header rest : List ℕ) → length header ≡ file_header_size → file_header_of header ≡ Other → records_of (header ++ rest) ≡ none
+pub records_other : (header rest : List ℕ) → length header ≡ file_header_size → file_header_of header ≡ None → records_of (header ++ rest) ≡ None
 records_other header rest h e = records_none (header ++ rest) (header_in_front header rest (omega arith) ∙ e)
 
 -- ---- what they say
@@ -162,14 +161,14 @@ module _ (order : Order) (header rest : List ℕ) (h : length header ≡ record_
   captured_in_front : number_at order (header ++ rest) captured_at ≡ number_at order header captured_at
   captured_in_front = number_in_front order header rest captured_at (omega arith)
 
-  pub cut_by_header : record_header_of order header ≡ Cut → records_from order (header ++ rest) ≡ cut_here
+  pub cut_by_header : record_header_of order header ≡ None → records_from order (header ++ rest) ≡ cut_here
   cut_by_header e = by ((record_header_says.cut_there order header).0 e)
     where
       by : (length header < record_header_size) ⊎ (frame_most < number_at order header captured_at) → records_from order (header ++ rest) ≡ cut_here
       by (inl l) = absurd (omega arith)
       by (inr l) = records_say.too_long order (header ++ rest) there (rw captured_in_front l)
 
-  pub cut_by_frame : {captured original : ℕ} → record_header_of order header ≡ Frame captured original → length rest < captured
+  pub cut_by_frame : {captured original : ℕ} → record_header_of order header ≡ header_with captured original → length rest < captured
       → records_from order (header ++ rest) ≡ cut_here
   cut_by_frame {captured} {original} e l =
       let r = (record_header_says.record_there order header captured original).0 e in
@@ -177,7 +176,7 @@ module _ (order : Order) (header rest : List ℕ) (h : length header ≡ record_
       records_say.frame_cut order (header ++ rest) there (rw c (simp length-append (omega arith)))
 
 pub next_by_header : (order : Order) (header frame rest : List ℕ) → length header ≡ record_header_size → {original : ℕ}
-    → record_header_of order header ≡ Frame (length frame) original
+    → record_header_of order header ≡ header_with (length frame) original
     → records_from order (header ++ (frame ++ rest)) ≡ before (record { frame = frame; original = original }) (records_from order rest)
 next_by_header order header frame rest h {original} e =
     let r = (record_header_says.record_there order header (length frame) original).0 e in

@@ -1,13 +1,11 @@
 -- Which part of a frame is judged: docs/RULES.md, 'A recording'. Fields past the frame's end count as 0 here; the tests leave no such frame over.
 -- `Carries` (Laws.antt) is the rules' sentence, and `PayloadSays` that they agree.
-use Rattle.std.specs.Prelude.{ℕ, ◌+◌, ◌-◌, ◌*◌, ◌/◌, ◌%◌, Bool, cond, ◌&&◌, ◌||◌, List, leb, eqb, length, get_or, take, drop}
-use Rattle.std.proofs.Math.Option.{Option, none, some}
+use Rattle.std.specs.Prelude.{ℕ, ◌+◌, ◌-◌, ◌*◌, ◌/◌, ◌%◌, Bool, cond, ◌&&◌, ◌||◌, List, leb, eqb, length, get_or, take, drop, None, Option, Some}
 use Rattle.octets.specs.Numbers.{big_at}
 use Rattle.capture.specs.Layout.{field_size, ether_type_at, ether_ipv4, packet_at}
 use Rattle.capture.specs.Layout.{ip_header_least, ip_version, ip_word, total_length_at, fragment_at, fragment_below, protocol_at, udp}
 use Rattle.capture.specs.Layout.{udp_header_size, source_at, destination_at, length_at, server_port, client_port}
 use Rattle.capture.specs.declared.Payload.{Payload}
-use Rattle.capture.specs.declared.Payload.TheVariants.{Skipped, At}
 
 unfoldable pub field_at : List ℕ → ℕ → ℕ
 field_at s at = big_at s at field_size
@@ -45,20 +43,24 @@ is_dhcp frame at room =
     leb udp_header_size (udp_length frame at) && leb (udp_length frame at) room
     && (is_dhcp_port (field_at frame (at + source_at)) || is_dhcp_port (field_at frame (at + destination_at)))
 
-unfoldable pub datagram_place : List ℕ → ℕ → ℕ → Payload
-datagram_place frame at room = cond (is_dhcp frame at room) (At (at + udp_header_size) (udp_length frame at - udp_header_size)) Skipped
+-- from this offset so many bytes
+abbrev pub placed_at : (at size : ℕ) → Option Payload
+placed_at at size = Some (record { at = at; size = size })
+
+unfoldable pub datagram_place : List ℕ → ℕ → ℕ → Option Payload
+datagram_place frame at room = cond (is_dhcp frame at room) (placed_at (at + udp_header_size) (udp_length frame at - udp_header_size)) None
 
 -- ---- the payload
 
 -- where it stands in a frame that had so many bytes
-unfoldable pub place_of : List ℕ → ℕ → Payload
+unfoldable pub place_of : List ℕ → ℕ → Option Payload
 place_of frame original =
     cond (eqb (length frame) original && is_whole_udp frame && lengths_fit frame)
-    (datagram_place frame (packet_at + header_length frame) (total_length frame - header_length frame)) Skipped
+    (datagram_place frame (packet_at + header_length frame) (total_length frame - header_length frame)) None
 
-abbrev pub bytes_at : List ℕ → Payload → Option (List ℕ)
-bytes_at frame Skipped = none
-bytes_at frame (At at size) = some (take size (drop at frame))
+abbrev pub bytes_at : List ℕ → Option Payload → Option (List ℕ)
+bytes_at frame None = None
+bytes_at frame (Some a) = Some (take a.size (drop a.at frame))
 
 -- its bytes, none where the frame is skipped
 unfoldable pub payload_of : List ℕ → ℕ → Option (List ℕ)

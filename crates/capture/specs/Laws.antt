@@ -1,17 +1,15 @@
 -- What the definitions on headers, records and frames mean, in the rules' words (docs/RULES.md, 'A recording'): closed statements, proved in
 -- proofs/Headers.antt, Records.antt and Payloads.antt.
-use Rattle.std.specs.Prelude.{ℕ, ◌+◌, ◌*◌, ◌/◌, ◌%◌, ◌^◌, ◌≤◌, ◌<◌, ◌≡◌, ◌↔◌, ◌⊎◌, List, [], ◌∷◌, ◌++◌, length, get_or}
-use Rattle.std.proofs.Math.Option.{none, some}
+use Rattle.std.specs.Prelude.{ℕ, ◌+◌, ◌*◌, ◌/◌, ◌%◌, ◌^◌, ◌≤◌, ◌<◌, ◌≡◌, ◌↔◌, ◌⊎◌, List, [], ◌∷◌, ◌++◌, length, get_or, None, Some}
 use Rattle.octets.specs.Bytes.{Bytes}
 use Rattle.octets.specs.Numbers.{big_at}
 use Rattle.capture.specs.Layout.{file_header_size, magic_at, magic, link_type_at, ethernet, record_header_size, captured_at, original_at, frame_most}
 use Rattle.capture.specs.Layout.{ether_type_at, ip_header_least, ip_version, ip_word, total_length_at, fragment_at, protocol_at, udp}
 use Rattle.capture.specs.Layout.{udp_header_size, source_at, destination_at, length_at, server_port, client_port}
 use Rattle.capture.specs.declared.Order.{Order}
-use Rattle.capture.specs.declared.FileHeader.TheVariants.{Other, Ethernet}
-use Rattle.capture.specs.declared.RecordHeader.TheVariants.{Cut, Frame}
 use Rattle.capture.specs.Records.{number_at, file_header_of, record_header_of, at_end, cut_here, before, records_from, records_of}
 use Rattle.capture.specs.Frame.{payload_of}
+use Rattle.capture.specs.Records.{header_with}
 
 -- ---- the file's header
 
@@ -22,7 +20,7 @@ pub record IsCapture (order : Order) (s : List ℕ) : Type 0 where
   pub link_type : number_at order s link_type_at ≡ ethernet
 
 abbrev pub HeaderSays : Type 0
-HeaderSays = (s : List ℕ) → Bytes s → (order : Order) → (file_header_of s ≡ Ethernet order) ↔ IsCapture order s
+HeaderSays = (s : List ℕ) → Bytes s → (order : Order) → (file_header_of s ≡ Some order) ↔ IsCapture order s
 
 -- ---- a record's header
 
@@ -35,9 +33,9 @@ pub record IsRecord (order : Order) (s : List ℕ) (captured original : ℕ) : T
 
 pub record RecordHeaderSays : Type 0 where
   pub record_there : (order : Order) (s : List ℕ) (captured original : ℕ)
-      → (record_header_of order s ≡ Frame captured original) ↔ IsRecord order s captured original
+      → (record_header_of order s ≡ header_with captured original) ↔ IsRecord order s captured original
   pub cut_there : (order : Order) (s : List ℕ)
-      → (record_header_of order s ≡ Cut) ↔ ((length s < record_header_size) ⊎ (frame_most < number_at order s captured_at))
+      → (record_header_of order s ≡ None) ↔ ((length s < record_header_size) ⊎ (frame_most < number_at order s captured_at))
 
 -- ---- the records
 
@@ -53,10 +51,10 @@ pub record RecordsSay : Type 0 where
       → records_from order (header ++ (frame ++ rest)) ≡ before (record { frame = frame; original = number_at order header original_at })
       (records_from order rest)
   -- the whole file
-  pub short_header : (file : List ℕ) → length file < file_header_size → records_of file ≡ none
-  pub other_header : (header rest : List ℕ) → length header ≡ file_header_size → file_header_of header ≡ Other → records_of (header ++ rest) ≡ none
-  pub behind_header : (order : Order) (header rest : List ℕ) → length header ≡ file_header_size → file_header_of header ≡ Ethernet order
-      → records_of (header ++ rest) ≡ some (records_from order rest)
+  pub short_header : (file : List ℕ) → length file < file_header_size → records_of file ≡ None
+  pub other_header : (header rest : List ℕ) → length header ≡ file_header_size → file_header_of header ≡ None → records_of (header ++ rest) ≡ None
+  pub behind_header : (order : Order) (header rest : List ℕ) → length header ≡ file_header_size → file_header_of header ≡ Some order
+      → records_of (header ++ rest) ≡ Some (records_from order rest)
 
 -- ---- the payload
 
@@ -88,4 +86,4 @@ pub record Carries (frame : List ℕ) (original : ℕ) (payload : List ℕ) : Ty
   pub port : DhcpPort (big_at udp_header source_at 2) ⊎ DhcpPort (big_at udp_header destination_at 2)
 
 abbrev pub PayloadSays : Type 0
-PayloadSays = (frame : List ℕ) → Bytes frame → (original : ℕ) (payload : List ℕ) → (payload_of frame original ≡ some payload) ↔ Carries frame original payload
+PayloadSays = (frame : List ℕ) → Bytes frame → (original : ℕ) (payload : List ℕ) → (payload_of frame original ≡ Some payload) ↔ Carries frame original payload

@@ -22,10 +22,7 @@ fn field_at(s: &[u8], at: usize) -> u64
 fn is_dhcp_port(port: u64) -> bool
     ensures { result ≡ is_dhcp_port port }
 {
-    if port == SERVER_PORT {
-        return true;
-    }
-    port == CLIENT_PORT
+    port == SERVER_PORT || port == CLIENT_PORT
 }
 
 // Whether a frame that has room for the least IP header is of type 0800 and IP version 4, protocol UDP, and not a fragment.
@@ -33,62 +30,56 @@ fn is_whole_udp(frame: &[u8]) -> bool
     requires { packet_at + ip_header_least ≤ length frame.now }
     ensures { result ≡ is_whole_udp frame.now }
 {
-    if field_at(frame, ETHER_TYPE_AT) != ETHER_IPV4 {
-        return false;
-    }
-    if frame[PACKET_AT] / 16 != IP_VERSION {
-        return false;
-    }
-    if frame[PACKET_AT + PROTOCOL_AT] != UDP {
-        return false;
-    }
-    field_at(frame, PACKET_AT + FRAGMENT_AT) % FRAGMENT_BELOW == 0
+    field_at(frame, ETHER_TYPE_AT) == ETHER_IPV4
+        && frame[PACKET_AT] / 16 == IP_VERSION
+        && frame[PACKET_AT + PROTOCOL_AT] == UDP
+        && field_at(frame, PACKET_AT + FRAGMENT_AT) % FRAGMENT_BELOW == 0
 }
 
 // The payload of the datagram at an offset of the frame, for which the packet leaves `room` bytes.
-fn datagram_place(frame: &[u8], at: usize, room: usize) -> Payload
+fn datagram_place(frame: &[u8], at: usize, room: usize) -> Option<Payload>
     requires udp_header_size_le_room { udp_header_size ≤ room }
     requires room_in_bounds { at + room ≤ length frame.now }
     ensures { result ≡ datagram_place frame.now at room }
 {
     let size = field_at(frame, at + LENGTH_AT) as usize;
-    if size < UDP_HEADER_SIZE {
-        return Payload::Skipped;
+    if size < UDP_HEADER_SIZE || room < size {
+        return None;
     }
-    if room < size {
-        return Payload::Skipped;
+    if !is_dhcp_port(field_at(frame, at + SOURCE_AT))
+        && !is_dhcp_port(field_at(frame, at + DESTINATION_AT))
+    {
+        return None;
     }
-    if !is_dhcp_port(field_at(frame, at + SOURCE_AT)) {
-        if !is_dhcp_port(field_at(frame, at + DESTINATION_AT)) {
-            return Payload::Skipped;
-        }
-    }
-    Payload::At(at + UDP_HEADER_SIZE, size - UDP_HEADER_SIZE)
+    Some(Payload {
+        at: at + UDP_HEADER_SIZE,
+        size: size - UDP_HEADER_SIZE,
+    })
 }
 
-// Where the DHCP payload of a record's captured bytes stands, if the frame had `original` bytes.
-pub fn payload_place(frame: &[u8], original: usize) -> Payload
+// Where the DHCP payload of a record's captured bytes stands, if the frame had `original` bytes; None where the frame is no whole DHCP datagram.
+pub fn payload_place(frame: &[u8], original: usize) -> Option<Payload>
     ensures { result ≡ place_of frame.now original }
 {
     if frame.len() != original {
-        return Payload::Skipped;
+        return None;
     }
     if frame.len() < PACKET_AT + IP_HEADER_LEAST {
-        return Payload::Skipped;
+        return None;
     }
     if !is_whole_udp(frame) {
-        return Payload::Skipped;
+        return None;
     }
     let header = (frame[PACKET_AT] % 16) as usize * IP_WORD;
     let total = field_at(frame, PACKET_AT + TOTAL_LENGTH_AT) as usize;
     if header < IP_HEADER_LEAST {
-        return Payload::Skipped;
+        return None;
     }
     if total < header + UDP_HEADER_SIZE {
-        return Payload::Skipped;
+        return None;
     }
     if frame.len() - PACKET_AT < total {
-        return Payload::Skipped;
+        return None;
     }
     datagram_place(frame, PACKET_AT + header, total - header)
 }

@@ -12,35 +12,22 @@ mod header;
 mod layout;
 
 // The byte order of the numbers in the file's header and in the records' headers.
-#[derive(Clone, Copy)]
+#[derive(Clone, Copy, Debug, PartialEq, Eq)]
 pub enum Order {
     LowFirst,
     HighFirst,
 }
 
-// What the file's header says.
-#[derive(Clone, Copy)]
-pub enum FileHeader {
-    // It is no classic capture of Ethernet frames.
-    Other,
-    // It is one, with numbers in this order.
-    Ethernet(Order),
+// What a record's header says: so many bytes of the frame were captured, and so many the frame had.
+#[derive(Clone, Copy, Debug, PartialEq, Eq)]
+pub struct RecordHeader {
+    pub captured: usize,
+    pub original: usize,
 }
 
-// What a record's header says.
-#[derive(Clone, Copy)]
-pub enum RecordHeader {
-    // The file is cut here: the header is not all there, or its captured length is above FRAME_MOST.
-    Cut,
-    // So many bytes of the frame were captured, and so many the frame had.
-    Frame(usize, usize),
-}
-
-// Which part of a frame is judged.
-#[derive(Clone, Copy)]
-pub enum Payload {
-    // None of it: the frame is no whole DHCP datagram.
-    Skipped,
-    // From this offset so many bytes.
-    At(usize, usize),
+// Which part of a frame is judged: from this offset so many bytes.
+#[derive(Clone, Copy, Debug, PartialEq, Eq)]
+pub struct Payload {
+    pub at: usize,
+    pub size: usize,
 }

@@ -3,7 +3,6 @@
 use Prim.Native.Nat.{ℕ, ◌+◌, ◌-◌}
 use mathlib.Core.Path.{◌≡◌, sym, ap, ◌∙◌}
 use mathlib.Core.List.{List}
-use mathlib.Core.Option.{none, some}
 use native.Mathlib.Omega.{arith}
 use lib.ListN.{take, drop}
 use Rattle.key_book.specs.Book.{Book}
@@ -11,20 +10,21 @@ use Rattle.delayed_auth.specs.Check.{check_of, marks_after, received_after}
 use Rattle.demands.specs.Demand3.{check, book_after}
 use Rattle.verdict_line.specs.declared.Line.TheVariants.{Skipped}
 use Rattle.file_verdict.specs.Files.{verdict_line}
-use Rattle.capture.specs.declared.Payload.TheVariants.{At}
 use Rattle.capture.specs.Frame.{place_of, payload_of}
 use Rattle.capture.proofs.Frames.{payload_at_lem}
 use Rattle.capture_verdict.specs.Lines.{record_line, marks_by, received_by, book_by}
+use Rattle.std.specs.Prelude.{None, Some}
+use Rattle.capture.specs.Frame.{placed_at}
 
 -- the payload as the part of its frame between two offsets
-pub payload_part : (frame : List ℕ) (original at size : ℕ) → place_of frame original ≡ At at size
-    → payload_of frame original ≡ some (take (at + size - at) (drop at frame))
+pub payload_part : (frame : List ℕ) (original at size : ℕ) → place_of frame original ≡ placed_at at size
+    → payload_of frame original ≡ Some (take (at + size - at) (drop at frame))
 payload_part frame original at size e =
     let n : at + size - at ≡ size = omega arith in
-    payload_at_lem frame original at size e ∙ ap (λ (k : ℕ). some (take k (drop at frame))) (sym n)
+    payload_at_lem frame original at size e ∙ ap (λ (k : ℕ). Some (take k (drop at frame))) (sym n)
 
 module _ (b : Book) (frame : List ℕ) (original : ℕ) where
-  module _ (e : payload_of frame original ≡ none) where
+  module _ (e : payload_of frame original ≡ None) where
     pub line_skipped : Skipped ≡ record_line b frame original
     unfolding record_line
     line_skipped = rw e
@@ -40,7 +40,7 @@ module _ (b : Book) (frame : List ℕ) (original : ℕ) where
     pub book_kept : book_by b frame original ≡ b
     book_kept = rw (sym marks_kept, sym received_kept)
 
-  module _ {message : List ℕ} (e : payload_of frame original ≡ some message) where
+  module _ {message : List ℕ} (e : payload_of frame original ≡ Some message) where
     pub line_judged : verdict_line (check_of b message) ≡ record_line b frame original
     unfolding record_line
     line_judged = rw e

@@ -1,8 +1,7 @@
 -- A recording of one message, judged by Book B (docs/RULES.md, 'Bench examples'): bench example 9 put right, as it is in a frame; before it a record
 -- without a payload, behind it the same frame again, and then a record whose frame is not all there. B's old card and its new one give the same lines.
 -- Then a message with counter 0, judged by a row that is not heard, and once more. The proof is proofs/Computed.antt.
-use Rattle.std.specs.Prelude.{ℕ, ◌+◌, ◌≡◌, List, [], ◌∷◌, ◌++◌, length}
-use Rattle.std.proofs.Math.Option.{Option, none, some}
+use Rattle.std.specs.Prelude.{ℕ, ◌+◌, ◌≡◌, List, [], ◌∷◌, ◌++◌, length, None, Option, Some}
 use Rattle.octets.specs.Bytes.{zeros}
 use Rattle.octets.specs.Numbers.{le, be}
 use Rattle.refusal.specs.declared.Refusal.TheVariants.{Replay}
@@ -42,13 +41,13 @@ abbrev pub zero_twice : List ℕ
 zero_twice = file_header ++ record_of (frame_of message_zero) ++ record_of (frame_of message_zero)
 
 pub record RecordingExample : Type 0 where
-  pub by_book_b : lines_of_files (some card_b) (some recording)
+  pub by_book_b : lines_of_files (Some card_b) (Some recording)
       ≡ numbered_line 1 Skipped ∷ numbered_line 2 (Accepted 0 11) ∷ numbered_line 3 (Refused Replay) ∷ line_of Cut ∷ []
   -- the new card: the same lines, whatever stands in the capture's place
-  pub by_new_card : (capture : Option (List ℕ)) → lines_of_files (some new_card_b) capture ≡ lines_of_files (some card_b) capture
+  pub by_new_card : (capture : Option (List ℕ)) → lines_of_files (Some new_card_b) capture ≡ lines_of_files (Some card_b) capture
   -- a row that is not heard takes counter 0, and is then heard
-  pub not_heard_lem : lines_of_files (some (marked_card 0 0)) (some zero_twice) ≡ numbered_line 1 (Accepted 0 0) ∷ numbered_line 2 (Refused Replay) ∷ []
-  pub no_record : lines_of_files (some card_b) (some file_header) ≡ []
+  pub not_heard_lem : lines_of_files (Some (marked_card 0 0)) (Some zero_twice) ≡ numbered_line 1 (Accepted 0 0) ∷ numbered_line 2 (Refused Replay) ∷ []
+  pub no_record : lines_of_files (Some card_b) (Some file_header) ≡ []
   pub read_failed : lines_to_failure empty_book file_header ≡ line_of Cut ∷ []
-  pub no_capture : lines_of_files (some card_b) none ≡ line_of Unreadable ∷ []
-  pub bad_card : (capture : Option (List ℕ)) → lines_of_files (some (0 ∷ [])) capture ≡ line_of Unreadable ∷ []
+  pub no_capture : lines_of_files (Some card_b) None ≡ line_of Unreadable ∷ []
+  pub bad_card : (capture : Option (List ℕ)) → lines_of_files (Some (0 ∷ [])) capture ≡ line_of Unreadable ∷ []

@@ -1,14 +1,11 @@
 -- From a book and a capture to the lines that `judge_capture` writes: docs/RULES.md, 'A recording'. The records are judged in the file's order, each by
 -- the book as the one before it left it.
-use Rattle.std.specs.Prelude.{ℕ, suc, true, cond, List, [], ◌∷◌, ◌++◌}
-use Rattle.std.proofs.Math.Option.{Option, none, some}
+use Rattle.std.specs.Prelude.{ℕ, suc, true, cond, List, [], ◌∷◌, ◌++◌, Err, None, Ok, Option, Result, Some}
 use Rattle.key_book.specs.Book.{Book, book_of}
 use Rattle.delayed_auth.specs.Check.{check_of, marks_after, received_after}
 use Rattle.verdict_line.specs.declared.Line.{Line}
 use Rattle.verdict_line.specs.declared.Line.TheVariants.{Unreadable, Skipped, Cut}
 use Rattle.verdict_line.specs.Line.{line_of, numbered_line}
-use Rattle.file_verdict.specs.declared.Loaded.{Loaded}
-use Rattle.file_verdict.specs.declared.Loaded.TheVariants.{Stopped, Rows}
 use Rattle.file_verdict.specs.Files.{loaded_of, book_loaded, empty_book, verdict_line}
 use Rattle.capture.specs.declared.Order.{Order}
 use Rattle.capture.specs.Records.{Record, Records, records_from, records_of}
@@ -17,16 +14,16 @@ use Rattle.capture.specs.Frame.{payload_of}
 -- ---- a record
 
 abbrev pub payload_line : Book → Option (List ℕ) → Line
-payload_line b none = Skipped
-payload_line b (some message) = verdict_line (check_of b message)
+payload_line b None = Skipped
+payload_line b (Some message) = verdict_line (check_of b message)
 
 abbrev pub marks_on : Book → Option (List ℕ) → List ℕ
-marks_on b none = b.marks
-marks_on b (some message) = marks_after (check_of b message) b.marks
+marks_on b None = b.marks
+marks_on b (Some message) = marks_after (check_of b message) b.marks
 
 abbrev pub received_on : Book → Option (List ℕ) → List ℕ
-received_on b none = b.received
-received_on b (some message) = received_after (check_of b message) b.received
+received_on b None = b.received
+received_on b (Some message) = received_after (check_of b message) b.received
 
 -- the line for a frame that had so many bytes, without its number
 unfoldable pub record_line : Book → List ℕ → ℕ → Line
@@ -74,8 +71,8 @@ lines_from order b n s = lines_for b n (records_from order s)
 -- ---- the file
 
 abbrev pub lines_in : Book → Option Records → List (List ℕ)
-lines_in b none = line_of Unreadable ∷ []
-lines_in b (some records) = lines_for b 1 records
+lines_in b None = line_of Unreadable ∷ []
+lines_in b (Some records) = lines_for b 1 records
 
 -- what is written for a capture's bytes, by the card's book
 unfoldable pub lines_of : Book → List ℕ → List (List ℕ)
@@ -83,8 +80,8 @@ lines_of b capture = lines_in b (records_of capture)
 
 -- the same records, cut behind the last
 abbrev pub cut_after : Option Records → Option Records
-cut_after none = none
-cut_after (some records) = some (record { whole = records.whole; cut = true })
+cut_after None = None
+cut_after (Some records) = Some (record { whole = records.whole; cut = true })
 
 -- what is written where a read of the capture failed behind these bytes
 unfoldable pub lines_to_failure : Book → List ℕ → List (List ℕ)
@@ -92,10 +89,10 @@ lines_to_failure b front = lines_in b (cut_after (records_of front))
 
 -- ---- both files: a file is its bytes, or none where it is missing or can't be read (the capture: to the end of its header)
 
-abbrev pub lines_on : (card capture : Option (List ℕ)) → Loaded → List (List ℕ)
-lines_on card capture (Stopped line) = line_of Unreadable ∷ []
-lines_on card none (Rows n) = line_of Unreadable ∷ []
-lines_on card (some capture) (Rows n) = lines_of (book_loaded empty_book card) capture
+abbrev pub lines_on : (card capture : Option (List ℕ)) → Result ℕ Line → List (List ℕ)
+lines_on card capture (Err line) = line_of Unreadable ∷ []
+lines_on card None (Ok n) = line_of Unreadable ∷ []
+lines_on card (Some capture) (Ok n) = lines_of (book_loaded empty_book card) capture
 
 unfoldable pub lines_of_files : (card capture : Option (List ℕ)) → List (List ℕ)
 lines_of_files card capture = lines_on card capture (loaded_of empty_book card)

@@ -1,7 +1,7 @@
 // What is said of a record of a capture: that it is skipped, or what a check of its payload by the lent book says. docs/RULES.md, 'A recording'.
 // Not here: the capture's format (capture), reading it (the program judge_capture) and the bytes of a line (verdict_line).
 //
-// The book is lent as ids, key lengths, key store, marks, received counters, sent counters and row count, in this order.
+// The book is lent as ids, key lengths, key store, marks, received counters, sent counters and row count, in this order and one by one, as a check takes it.
 #![tactic(auto)]
 
 ghost use Rattle.std.specs.Prelude.{◌≡◌};
@@ -31,8 +31,7 @@ pub fn record_line(
     ensures stored { let b = book_of ids.now lengths.now store.now marks.old received.old sent.now rows in
         received.new ≡ received_by b frame.now original }
 {
-    let payload = capture::payload_place(frame, original);
-    let Payload::At(at, size) = payload else {
+    let Some(Payload { at, size }) = capture::payload_place(frame, original) else {
         return Line::Skipped;
     };
     let end = at + size;

@@ -1,6 +1,5 @@
 -- What the program makes of what it reads: docs/RULES.md, 'Two files side by side'.
-use Rattle.std.specs.Prelude.{◌≡◌, List, ℕ, length}
-use Rattle.std.proofs.Math.Option.{Option}
+use Rattle.std.specs.Prelude.{◌≡◌, List, ℕ, length, Option}
 use Rattle.verdict_line.specs.Line.{size_in, out_after}
 use Rattle.comparison_verdict.specs.Report.{report_for}
 

@@ -5,7 +5,6 @@ use mathlib.Core.Path.{◌≡◌, refl, sym, ap, ◌∙◌}
 use mathlib.Core.Logic.{◌≢◌, ◌⊎◌, inl, inr}
 use mathlib.Core.Bool.{Bool, true, false}
 use mathlib.Core.List.{List, [], ◌∷◌, ◌++◌}
-use mathlib.Core.Option.{Option, none, some}
 use native.Mathlib.Omega.{arith}
 use borrow.Author.Tests.{leb-true, leb-false}
 use lib.Dec.{leb}
@@ -16,7 +15,6 @@ use Rattle.refusal.specs.declared.Refusal.TheVariants.{NoRoomForReport}
 use Rattle.octets.specs.Bytes.{Bytes}
 use Rattle.dhcp_message.specs.Message.{Passes27}
 use Rattle.dhcp_message.specs.Shape.{shape_of}
-use Rattle.dhcp_message.specs.declared.Shape.TheVariants.{Refused as ShapeRefused}
 use Rattle.dhcp_message.proofs.Passing.{passing, tokens_of}
 use Rattle.dhcp_message.proofs.Lowest.{shape_given}
 use Rattle.verdict_line.specs.declared.Line.TheVariants.{Refused, Unreadable}
@@ -27,8 +25,6 @@ use Rattle.verdict_line.proofs.Lines.{worded_length}
 use Rattle.verdict_line.proofs.Says.{longest_line}
 use Rattle.file_verdict.specs.Files.{file_most, readable}
 use Rattle.file_verdict.proofs.Contents.{readable_none, readable_fits, readable_too_large}
-use Rattle.comparison.specs.declared.Compared.{Compared}
-use Rattle.comparison.specs.declared.Compared.TheVariants.{Refused as ComparedRefused, Size}
 use Rattle.comparison.specs.Difference.{parts_of, differences_of, relay_only, relay_only_line, lines_of, last_line, text_of}
 use Rattle.comparison.specs.Entry.{comparison_most, text_for, compare_of}
 use Rattle.comparison.proofs.Fitting.{lines_fit}
@@ -37,6 +33,7 @@ use Rattle.comparison.proofs.Entries.{answer_first, answer_second, answer_lines,
 use Rattle.comparison_verdict.specs.Report.{report_by, report_of, report_for}
 use Rattle.comparison_verdict.specs.Laws.{NotJudged, OfBytes, HasNumber, ReportSays}
 use Rattle.comparison_verdict.proofs.Answers.{report_refused, report_lines, first_none, second_none, both_judged}
+use Rattle.std.specs.Prelude.{Err, None, Ok, Option, Result, Some, ℕ}
 
 -- ---- which files may be judged
 
@@ -47,21 +44,21 @@ fits_or_not s = on (leb (length s) file_most) refl
     on true e = inl (leb-true (length s) file_most e)
     on false e = inr (leb-false (length s) file_most e)
 
-none_readable : (file : Option (List ℕ)) → NotJudged file → readable file ≡ none
-none_readable none h = readable_none
-none_readable (some s) h = readable_too_large s h
+none_readable : (file : Option (List ℕ)) → NotJudged file → readable file ≡ None
+none_readable None h = readable_none
+none_readable (Some s) h = readable_too_large s h
 
-not_judged : (file : Option (List ℕ)) → readable file ≡ none → NotJudged file
-not_judged none e = tt
-not_judged (some s) e = on (fits_or_not s)
+not_judged : (file : Option (List ℕ)) → readable file ≡ None → NotJudged file
+not_judged None e = tt
+not_judged (Some s) e = on (fits_or_not s)
   where
     on : (length s ≤ file_most) ⊎ (file_most < length s) → file_most < length s
     on (inl h) = let g = sym (readable_fits s h) ∙ e in let z : ◌≡◌ {A = ℕ} 0 1 = cc in absurd (omega arith)
     on (inr h) = h
 
 module _ (first second : List ℕ) (h : length first ≤ file_most) (k : length second ≤ file_most) where
-  two_judged : report_for (some first) (some second) ≡ report_of first second
-  two_judged = sym (both_judged (some first) (some second) (readable_fits first h) (readable_fits second k))
+  two_judged : report_for (Some first) (Some second) ≡ report_of first second
+  two_judged = sym (both_judged (Some first) (Some second) (readable_fits first h) (readable_fits second k))
 
 -- one of two files is not judged
 module _ (first second : Option (List ℕ)) where
@@ -70,17 +67,17 @@ module _ (first second : Option (List ℕ)) where
   unreadable_by (inr h) = on (readable first) refl
     where
       on : (x : Option (List ℕ)) → readable first ≡ x → report_for first second ≡ line_of Unreadable
-      on none e = sym (first_none first second e)
-      on (some s) e = sym (second_none first second e (none_readable second h))
+      on None e = sym (first_none first second e)
+      on (Some s) e = sym (second_none first second e (none_readable second h))
 
 -- ---- what the comparison answers
 
 -- a message is refused by checks 2 to 7 with its number, and with no other
 module _ (m : List ℕ) (b : Bytes m) where
-  refused_by : {r : Refusal} → HasNumber m r → shape_of m ≡ ShapeRefused r
+  refused_by : {r : Refusal} → HasNumber m r → shape_of m ≡ Err r
   refused_by {r} h = (shape_given.refused m b r).1 h
 
-  refused_low_by : {r : Refusal} → shape_of m ≡ ShapeRefused r → number_of r < 8
+  refused_low_by : {r : Refusal} → shape_of m ≡ Err r → number_of r < 8
   refused_low_by {r} e = ((shape_given.refused m b r).0 e).2
 
 -- a message that passes may be judged
@@ -125,22 +122,22 @@ module _ (first second : List ℕ) where
   unfolding report_of
   never_unreadable = on (compare_of first second comparison_most)
     where
-      on : (c : Compared) → report_by (text_for first second) c ≢ line_of Unreadable
-      on (ComparedRefused r) e = refused_not_unreadable r e
-      on (Size n) e = text_apart first second (line_of Unreadable) refl (λ f. omega (arith, ap (byte_at 0) f)) e
+      on : (c : Result ℕ Refusal) → report_by (text_for first second) c ≢ line_of Unreadable
+      on (Err r) e = refused_not_unreadable r e
+      on (Ok n) e = text_apart first second (line_of Unreadable) refl (λ f. omega (arith, ap (byte_at 0) f)) e
 
   report_fits : length (report_of first second) ≤ comparison_most
   unfolding report_of
   report_fits = on (compare_of first second comparison_most) refl
     where
-      on : (c : Compared) → compare_of first second comparison_most ≡ c → length (report_by (text_for first second) c) ≤ comparison_most
-      on (ComparedRefused r) e = omega (arith, longest_line.refused_most r)
-      on (Size n) e = (size_is first second comparison_most e).1
+      on : (c : Result ℕ Refusal) → compare_of first second comparison_most ≡ c → length (report_by (text_for first second) c) ≤ comparison_most
+      on (Err r) e = omega (arith, longest_line.refused_most r)
+      on (Ok n) e = (size_is first second comparison_most e).1
 
-  first_number : {r : Refusal} → shape_of first ≡ ShapeRefused r → report_of first second ≡ line_of (Refused r)
+  first_number : {r : Refusal} → shape_of first ≡ Err r → report_of first second ≡ line_of (Refused r)
   first_number e = sym (report_refused first second refl (answer_first first second comparison_most e))
 
-  second_number : {r : Refusal} → Passes27 first → shape_of second ≡ ShapeRefused r → report_of first second ≡ line_of (Refused r)
+  second_number : {r : Refusal} → Passes27 first → shape_of second ≡ Err r → report_of first second ≡ line_of (Refused r)
   second_number p e = sym (report_refused first second refl (answer_second first second comparison_most p e))
 
   both_lines : Passes27 first → Passes27 second → length (text_for first second) ≤ comparison_most → report_of first second ≡ text_for first second
@@ -150,7 +147,7 @@ module _ (first second : List ℕ) where
     not_22 : report_of first second ≢ line_of (Refused NoRoomForReport)
     not_22 = on (compare_of first second comparison_most) (compare_case first second comparison_most)
       where
-        on : (c : Compared) → CompareCase first second comparison_most c → report_of first second ≢ line_of (Refused NoRoomForReport)
+        on : (c : Result ℕ Refusal) → CompareCase first second comparison_most c → report_of first second ≢ line_of (Refused NoRoomForReport)
         on c (in_first r e) = rw (first_number e) (refused_low r (refused_low_by first b e))
         on c (in_second r p e) = rw (second_number p e) (refused_low r (refused_low_by second d e))
         on c (in_room p q l) = absurd (omega (arith, lines_fit first second b d p q))
@@ -163,31 +160,31 @@ module _ (first second : Option (List ℕ)) where
   unreadable_only h = on (readable first) (readable second) refl refl
     where
       on : (x y : Option (List ℕ)) → readable first ≡ x → readable second ≡ y → NotJudged first ⊎ NotJudged second
-      on none y e f = inl (not_judged first e)
-      on (some s) none e f = inr (not_judged second f)
-      on (some s) (some t) e f = absurd (never_unreadable s t (both_judged first second e f ∙ h))
+      on None y e f = inl (not_judged first e)
+      on (Some s) None e f = inr (not_judged second f)
+      on (Some s) (Some t) e f = absurd (never_unreadable s t (both_judged first second e f ∙ h))
 
   written_fits : length (report_for first second) ≤ comparison_most
   written_fits = on (readable first) (readable second) refl refl
     where
       on : (x y : Option (List ℕ)) → readable first ≡ x → readable second ≡ y → length (report_for first second) ≤ comparison_most
-      on none y e f = rw (← (first_none first second e)) (omega arith)
-      on (some s) none e f = rw (← (second_none first second e f)) (omega arith)
-      on (some s) (some t) e f = rw (← (both_judged first second e f)) (report_fits s t)
+      on None y e f = rw (← (first_none first second e)) (omega arith)
+      on (Some s) None e f = rw (← (second_none first second e f)) (omega arith)
+      on (Some s) (Some t) e f = rw (← (both_judged first second e f)) (report_fits s t)
 
 unreadable_not_22 : {s : List ℕ} → s ≡ line_of Unreadable → s ≢ line_of (Refused NoRoomForReport)
 unreadable_not_22 e f = refused_not_unreadable NoRoomForReport (sym f ∙ e)
 
 never_22 : (first second : Option (List ℕ)) → OfBytes first → OfBytes second → report_for first second ≢ line_of (Refused NoRoomForReport)
-never_22 none second b d = unreadable_not_22 (unreadable_by none second (inl tt))
-never_22 (some s) none b d = unreadable_not_22 (unreadable_by (some s) none (inr tt))
-never_22 (some s) (some t) b d = on (fits_or_not s) (fits_or_not t)
+never_22 None second b d = unreadable_not_22 (unreadable_by None second (inl tt))
+never_22 (Some s) None b d = unreadable_not_22 (unreadable_by (Some s) None (inr tt))
+never_22 (Some s) (Some t) b d = on (fits_or_not s) (fits_or_not t)
   where
     on : (length s ≤ file_most) ⊎ (file_most < length s) → (length t ≤ file_most) ⊎ (file_most < length t)
-        → report_for (some s) (some t) ≢ line_of (Refused NoRoomForReport)
+        → report_for (Some s) (Some t) ≢ line_of (Refused NoRoomForReport)
     on (inl h) (inl k) = rw (two_judged s t h k) (not_22 s t b d)
-    on (inl h) (inr k) = unreadable_not_22 (unreadable_by (some s) (some t) (inr k))
-    on (inr h) k = unreadable_not_22 (unreadable_by (some s) (some t) (inl h))
+    on (inl h) (inr k) = unreadable_not_22 (unreadable_by (Some s) (Some t) (inr k))
+    on (inr h) k = unreadable_not_22 (unreadable_by (Some s) (Some t) (inl h))
 
 pub report_says : ReportSays
 report_says = record {

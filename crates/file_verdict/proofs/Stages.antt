@@ -1,22 +1,33 @@
 -- The card's and the message's decisions, a law for each end: the file may not be judged, or its bytes are handed on to reading or check.
-use mathlib.Core.Path.{◌≡◌, refl, sym, ap, ◌∙◌}
+use mathlib.Core.Path.{◌≡◌, refl, ap, ◌∙◌}
 use mathlib.Core.List.{List}
-use mathlib.Core.Option.{Option, none, some}
 use Prim.Native.Nat.{ℕ}
 use Rattle.key_book.specs.Book.{Book}
-use Rattle.delayed_auth.specs.declared.Verdict.{Verdict}
 use Rattle.delayed_auth.specs.Check.{check_of, marks_after, received_after}
-use Rattle.book_card.specs.declared.ReadAnswer.{ReadAnswer}
-use Rattle.book_card.specs.Reading.{read_of, read_book}
-use Rattle.verdict_line.specs.declared.Line.TheVariants.{Unreadable}
-use Rattle.file_verdict.specs.Files.{readable, loaded_by, loaded_of, book_loaded}
+use Rattle.book_card.specs.Reading.{read_of, read_book, rows_given}
+use Rattle.verdict_line.specs.declared.Line.{Line}
+use Rattle.verdict_line.specs.declared.Line.TheVariants.{Refused, Unreadable}
+use Rattle.file_verdict.specs.Files.{readable, loaded_by, loaded_of, rows_loaded, book_loaded}
 use Rattle.file_verdict.specs.Files.{verdict_line, message_line, marks_left, received_left}
-use Rattle.file_verdict.specs.declared.Loaded.TheVariants.{Stopped}
+use Rattle.std.specs.Prelude.{Err, None, Ok, Option, Result, Some, ℕ, IsErrAnd, MatchResult}
+use Rattle.std.proofs.lemmas.Result.{err_from_is_err_and}
+use Rattle.delayed_auth.specs.declared.Accepted.{Accepted}
+use Rattle.refusal.specs.declared.Refusal.{Refusal}
+
+-- what `load_card` makes of the answer of reading the card: the same rows, and the refusal as a line
+pub as_loaded : (answer : Result ℕ Refusal) {r : Result ℕ Line} → MatchResult answer (λ n. r ≡ Ok n) (λ q. IsErrAnd r (λ line. line ≡ Refused q))
+    → r ≡ loaded_by answer
+as_loaded (Ok n) m = m
+as_loaded (Err q) {r} m = let p = err_from_is_err_and r m in p.1 ∙ ap Err p.2
+
+pub as_rows : (answer : Result ℕ Refusal) → rows_loaded (loaded_by answer) ≡ rows_given answer
+as_rows (Ok n) = refl
+as_rows (Err q) = refl
 
 module _ (b : Book) (file : Option (List ℕ)) where
   -- the file may not be judged: the line says so, and what was lent is as it was
-  module _ (e : readable file ≡ none) where
-    pub card_none : (Stopped Unreadable ≡ loaded_of b file) × (b ≡ book_loaded b file)
+  module _ (e : readable file ≡ None) where
+    pub card_none : (Err Unreadable ≡ loaded_of b file) × (b ≡ book_loaded b file)
     unfolding loaded_of book_loaded
     card_none = rw e (refl, refl)
 
@@ -24,19 +35,20 @@ module _ (b : Book) (file : Option (List ℕ)) where
     unfolding message_line marks_left received_left
     message_none = rw e (refl, (refl, refl))
 
-  -- it is handed on: by the answer, and the case of it that was met
-  module _ {s : List ℕ} (e : readable file ≡ some s) where
-    pub card_read : {answer met : ReadAnswer} → answer ≡ met → answer ≡ read_of b s → loaded_by met ≡ loaded_of b file
+  -- it is handed on: by what was made of the answer
+  module _ {s : List ℕ} (e : readable file ≡ Some s) where
+    pub card_read : {answer : Result ℕ Refusal} {r : Result ℕ Line} → r ≡ loaded_by answer → answer ≡ read_of b s → r ≡ loaded_of b file
     unfolding loaded_of
-    card_read m a = rw e (ap loaded_by (sym m ∙ a))
+    card_read m a = rw e (m ∙ ap loaded_by a)
 
     pub book_read : {after : Book} → after ≡ read_book b s → after ≡ book_loaded b file
     unfolding book_loaded
     book_read a = rw e a
 
-    pub message_checked : {verdict met : Verdict} → verdict ≡ met → verdict ≡ check_of b s → verdict_line met ≡ message_line b file
+    pub message_checked : {verdict : Result Accepted Refusal} {line : Line} → line ≡ verdict_line verdict → verdict ≡ check_of b s
+        → line ≡ message_line b file
     unfolding message_line
-    message_checked m v = rw e (ap verdict_line (sym m ∙ v))
+    message_checked m v = rw e (m ∙ ap verdict_line v)
 
     pub row_marked : {after : List ℕ} → after ≡ marks_after (check_of b s) b.marks → after ≡ marks_left b file
     unfolding marks_left

@@ -8,17 +8,17 @@ ghost use Rattle.key_book.specs.Book.{book_of};
 ghost use Rattle.file_verdict.specs.Files.{rows_loaded};
 ghost use Rattle.judge.specs.Program.{CardLine};
 
-use file_verdict::Loaded;
-use key_book::{ROWS_MOST, SLOT_SIZE};
+use key_book::{LentRoom, ROWS_MOST, SLOT_SIZE};
 use program_files::FILE_ROOM;
 use std::io;
 use std::rt::Files;
 use verdict_line::{LINE_MOST, Line};
 
-// The line, from what the card gave and the book that was loaded from it. The message file is looked at only where there are rows.
+// The line, from what the card gave and the book that was loaded from it. The message file is looked at only where there are rows. The lists come one by one,
+// as a check takes them.
 fn loaded_line<R: Files>(
     rt: &R,
-    loaded: Loaded,
+    loaded: Result<usize, Line>,
     ids: &[u32],
     lengths: &[u8],
     store: &[u8],
@@ -32,8 +32,8 @@ fn loaded_line<R: Files>(
         CardLine loaded b result }
 {
     match loaded {
-        Loaded::Stopped(line) => line,
-        Loaded::Rows(rows) => {
+        Err(line) => line,
+        Ok(rows) => {
             let mut room = [0u8; FILE_ROOM];
             let message = program_files::read_file(rt, b"message.bin", &mut room);
             file_verdict::message_line(
@@ -52,12 +52,14 @@ fn main(rt: HostRuntime) -> io::Result<()> {
     let mut sent = [0u64; ROWS_MOST];
     let loaded = program_files::load_book(
         &rt,
-        &mut ids,
-        &mut lengths,
-        &mut store,
-        &mut marks,
-        &mut received,
-        &mut sent,
+        &mut LentRoom {
+            ids: &mut ids,
+            lengths: &mut lengths,
+            store: &mut store,
+            marks: &mut marks,
+            received: &mut received,
+            sent: &mut sent,
+        },
     );
     let line = loaded_line(
         &rt,

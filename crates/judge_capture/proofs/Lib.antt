@@ -1,4 +1,3 @@
-mod Moves
 mod Windows
 mod Rooms
 mod Taken

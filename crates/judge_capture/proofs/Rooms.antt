@@ -1,11 +1,12 @@
 -- Lines in the room where they wait: one more behind those that are there, by what the writer in the rest of the room answered.
 use Prim.Native.Nat.{ℕ, ◌+◌, ◌-◌, ◌≤◌, ◌<◌}
 use mathlib.Core.Path.{◌≡◌, sym, ap, ◌∙◌}
-use mathlib.Core.Bool.{true, false}
+use mathlib.Core.Bool.{true, false, cond}
 use mathlib.Core.List.{List, ◌++◌}
 use native.Mathlib.Nat.{add-zero}
 use native.Mathlib.Omega.{arith}
 use borrow.Author.Tests.{le-leb, lt-leb}
+use lib.Dec.{leb}
 use lib.ListN.{length, take, drop, length-drop}
 use lib.Seq.{length-take-le}
 use Rattle.octets.specs.Bytes.{written}
@@ -13,9 +14,8 @@ use Rattle.octets.proofs.Written.{written_none, written_part}
 use Rattle.verdict_line.specs.declared.Line.TheVariants.{Cut}
 use Rattle.verdict_line.specs.Line.{numbered_most, line_of, PutAt, size_in, out_after}
 use Rattle.verdict_line.proofs.Lines.{line_within, out_whole}
-use Rattle.judge_capture.specs.Window.{is_cut, end_line, RoomMade}
+use Rattle.judge_capture.specs.Window.{is_cut, end_line}
 use Rattle.judge_capture.specs.declared.Next.{Next}
-use Rattle.judge_capture.specs.declared.Waiting.TheVariants.{Size}
 
 module _ (size : ℕ) (out : List ℕ) (h : size ≤ length out) where
   -- the rest of the room
@@ -54,8 +54,8 @@ module _ (size : ℕ) (out : List ℕ) (next : Next) where
 -- ---- the two ends of `make_room` that write nothing and all
 
 module _ (size room : ℕ) where
-  pub room_kept : size + numbered_most ≤ room → RoomMade size room (Size size)
+  pub room_kept : size + numbered_most ≤ room → size ≡ cond (leb (size + numbered_most) room) size 0
   room_kept h = rw (le-leb (size + numbered_most) room h)
 
-  pub room_emptied : room < size + numbered_most → RoomMade size room (Size 0)
+  pub room_emptied : room < size + numbered_most → 0 ≡ cond (leb (size + numbered_most) room) size 0
   room_emptied h = rw (lt-leb (size + numbered_most) room h)

@@ -1,10 +1,9 @@
 -- The loop over the records: what each turn keeps (`Looping`), and that a turn takes the next record of the file (capture, proofs/Records.antt) and
 -- leaves the book as capture_verdict has it.
-use Prim.Native.Nat.{ℕ, suc, ◌+◌, ◌-◌, ◌^◌, ◌≤◌}
+use Prim.Native.Nat.{ℕ, suc, ◌+◌, ◌^◌, ◌≤◌}
 use mathlib.Core.Path.{◌≡◌, refl, sym, ap, ap₂, ◌∙◌}
 use mathlib.Core.Bool.{Bool, true, false, cond}
 use mathlib.Core.List.{List, [], ◌∷◌, ◌++◌, append_assoc, append-nil}
-use mathlib.Core.Option.{some}
 use native.Mathlib.Omega.{arith}
 use lib.Dec.{leb}
 use lib.ListN.{length, take, length-append}
@@ -14,17 +13,19 @@ use Rattle.key_book.specs.Book.{Book}
 use Rattle.verdict_line.specs.declared.Line.{Line}
 use Rattle.verdict_line.specs.Line.{numbered_most, numbered_line, PutAt}
 use Rattle.capture.specs.declared.Order.{Order}
-use Rattle.capture.specs.declared.RecordHeader.TheVariants.{Frame}
 use Rattle.capture.specs.Layout.{file_header_size}
 use Rattle.capture.specs.Records.{Record, Records, record_header_of, in_front, records_from, records_of}
 use Rattle.capture.proofs.Records.{records_say, next_by_header}
 use Rattle.capture_verdict.specs.Lines.{record_line, marks_by, received_by, with_heard, book_by, record_lines, book_at_end, numbered}
 use Rattle.judge_capture.specs.Window.{window, RecordThere, NextIs, end_line, CaptureThere}
 use Rattle.judge_capture.specs.declared.Next.{Next}
+use Rattle.judge_capture.specs.declared.Window.{Window}
 use Rattle.judge_capture.specs.declared.Next.TheVariants.{Record as ARecord, AtEnd, Cut, Failed}
 use Rattle.judge_capture.specs.Judging.{Judging, Judged, after_line, after_lines, Last, file_ends, file_cut, no_number, Waited, Recorded}
 use Rattle.judge_capture.proofs.Windows.{window_parts}
 use Rattle.judge_capture.proofs.Taken.{window_size_lem}
+use Rattle.std.specs.Prelude.{Some}
+use Rattle.capture.specs.Records.{header_with}
 
 -- ---- the records
 
@@ -42,7 +43,7 @@ module _ {order : Order} {first : List ℕ} {records : List Record} {left : List
   abbrev taken : Record
   taken = record { frame = frame; original = original }
 
-  says : record_header_of order t.header ≡ Frame (length frame) original
+  says : record_header_of order t.header ≡ header_with (length frame) original
   says =
       let w = t.within in
       let f = t.frame_within in
@@ -151,16 +152,16 @@ put_waits {out} {new} {line} {size} {r} {left} {room} p h w l e = rw (e, l, sym 
 
 -- ---- what each turn keeps
 
--- so many records have been judged, these bytes are left, and their lines leave this waiting
+-- the records before this number have been judged, these bytes are left, and their lines leave this waiting
 pub record Progress (order : Order) (b : Book) (first marks received : List ℕ) (number : ℕ) (left : List ℕ) (room : ℕ) (text : List ℕ) : Type 0 where
   pub records : List Record
-  pub counted : number ≡ length records
+  pub counted : number ≡ 1 + length records
   pub judging : Judging order first records left
   pub rows_heard : marks ≡ (book_at_end b records).marks
   pub counters : received ≡ (book_at_end b records).received
   pub waits : text ≡ after_lines room [] (numbered 1 (record_lines b records))
 
-pub progress_start : (order : Order) (b : Book) (first : List ℕ) (room : ℕ) → Progress order b first b.marks b.received 0 first room []
+pub progress_start : (order : Order) (b : Book) (first : List ℕ) (room : ℕ) → Progress order b first b.marks b.received 1 first room []
 progress_start order b first room =
     record { records = []; counted = refl; judging = judging_start order first; rows_heard = refl; counters = refl; waits = refl }
 
@@ -168,14 +169,13 @@ module _ {order : Order} {b : Book} {first marks received left : List ℕ} {numb
     (p : Progress order b first marks received number left room text) where
   pub progress_turn : {after : List ℕ} {at end original until : ℕ} {heard counters out new : List ℕ} {size r waiting : ℕ}
       → RecordThere order left after at end original until
-      → PutAt out size (numbered_line (number + 1) (record_line (with_heard b marks received) (window after at end) original)) new r
+      → PutAt out size (numbered_line number (record_line (with_heard b marks received) (window after at end) original)) new r
       → heard ≡ marks_by (with_heard b marks received) (window after at end) original
       → counters ≡ received_by (with_heard b marks received) (window after at end) original
       → take size out ≡ text → size ≤ length out → r ≤ length new → length new ≡ room → waiting ≡ cond (leb (r + numbered_most) (length new)) r 0
       → Progress order b first heard counters (number + 1) (window after end until) room (take waiting new)
   progress_turn {after} {at} {end} {original} {until} t l d e x h w z m =
       let c = p.counted in
-      let n : number + 1 ≡ 1 + length p.records = omega arith in
       record {
         records = p.records ++ (record { frame = window after at end; original = original } ∷ []);
         counted = simp length-append (omega arith);
@@ -185,7 +185,7 @@ module _ {order : Order} {b : Book} {first marks received left : List ℕ} {numb
         waits =
             put_waits l h w z m
             ∙ ap₂ (after_line room) (x ∙ p.waits)
-            (ap₂ (λ (i : ℕ) (y : Book). numbered_line i (record_line y (window after at end) original)) n (book_now b p.records p.rows_heard p.counters))
+            (ap₂ (λ (i : ℕ) (y : Book). numbered_line i (record_line y (window after at end) original)) c (book_now b p.records p.rows_heard p.counters))
             ∙ sym (waits_snoc room b p.records (record { frame = window after at end; original = original }));
       }
 
@@ -201,26 +201,25 @@ pub record Looping (order : Order) (b : Book) (first : List ℕ) (room-size out_
   pub counters_long : length received ≡ length b.received
   pub out_long : length out ≡ out_size
   pub waiting : size + numbered_most ≤ out_size
-  pub small : number ≤ 2 ^ 64 - 1
   pub progress : Progress order b first marks received number (window room from have) out_size (take size out)
 
 -- ---- where it ended
 
 -- what comes next is no record
 abbrev pub NoRecord : Next → Type 0
-NoRecord (ARecord at end original have) = ⊥
+NoRecord (ARecord _ _ _) = ⊥
 NoRecord AtEnd = Unit {0}
 NoRecord Cut = Unit {0}
 NoRecord Failed = Unit {0}
 
-pub no_record : (next : Next) → ((at end original have : ℕ) → next ≡ ARecord at end original have → ⊥) → NoRecord next
-no_record (ARecord at end original have) n = n at end original have refl
+pub no_record : (next : Next) → ((frame : Window) (original until : ℕ) → next ≡ ARecord frame original until → ⊥) → NoRecord next
+no_record (ARecord frame original until) n = n frame original until refl
 no_record AtEnd n = tt
 no_record Cut n = tt
 no_record Failed n = tt
 
 last_by : (order : Order) (left room : List ℕ) (number : ℕ) (next : Next) → NoRecord next → NextIs order left room next → Last order left number (end_line next)
-last_by order left room number (ARecord at end original have) h t = absurd h
+last_by order left room number (ARecord _ _ _) h t = absurd h
 last_by order left room number AtEnd h t = file_ends t
 last_by order left room number Cut h t = file_cut t.read (ap (λ (x : Records). x.whole) t.cut)
 last_by order left room number Failed h t = file_cut t.read t.whole_none
@@ -245,21 +244,19 @@ module _ {order : Order} {b : Book} {first : List ℕ} {room-size out_size : ℕ
             ∙ rw z (ap (λ (s : List ℕ). s ++ end_line next) q.waits);
       }
 
-  -- where no number is left
-  pub ended_numbers : 2 ^ 64 - 1 ≤ number → Waited order b first marks received out size
-  ended_numbers h =
-      let k = l.small in
-      let q = l.progress in
-      let c = q.counted in
-      let o = l.out_long in
-      let m = l.waiting in
-      record {
-        judged = judged q;
-        within = omega arith;
-        end = [];
-        last = no_number (omega arith);
-        text = q.waits ∙ sym (append-nil _) ∙ ap (λ (n : ℕ). after_lines n [] (numbered 1 (record_lines b q.records)) ++ []) (sym o);
-      }
+-- where no number is left
+pub ended_numbers : {order : Order} {b : Book} {first marks received left out : List ℕ} {number out_size size : ℕ}
+    → Progress order b first marks received number left out_size (take size out) → length out ≡ out_size → size ≤ length out → number ≡ 2 ^ 64
+    → Waited order b first marks received out size
+ended_numbers {b = b} p l w n =
+    let c = p.counted in
+    record {
+      judged = judged p;
+      within = w;
+      end = [];
+      last = no_number (omega arith);
+      text = p.waits ∙ sym (append-nil _) ∙ ap (λ (n : ℕ). after_lines n [] (numbered 1 (record_lines b p.records)) ++ []) (sym l);
+    }
 
 -- ---- the whole recording: its header, and then what the loop judged
 
@@ -281,7 +278,7 @@ recorded {order} {b} {room} {marks} {received} {start} {held} c j =
       so_far = λ rest.
           ap records_of (append_assoc header (first ++ read) rest ∙ ap (λ (s : List ℕ). header ++ s) (append_assoc first read rest))
           ∙ records_say.behind_header order header (first ++ (read ++ rest)) size c.header_says
-          ∙ ap some (j.so_far.goes_on rest);
+          ∙ ap Some (j.so_far.goes_on rest);
       rows_heard = j.rows_heard;
       counters = j.counters;
     }

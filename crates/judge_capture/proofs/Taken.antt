@@ -7,8 +7,6 @@ use native.Mathlib.Omega.{arith}
 use lib.ListN.{length, drop, length-append, length-drop}
 use lib.Seq.{length-take-le}
 use Rattle.capture.specs.declared.Order.{Order}
-use Rattle.capture.specs.declared.FileHeader.TheVariants.{Ethernet}
-use Rattle.capture.specs.declared.RecordHeader.TheVariants.{Cut as HeaderCut, Frame}
 use Rattle.capture.specs.Layout.{file_header_size, record_header_size, frame_most}
 use Rattle.capture.specs.Records.{Records, file_header_of, record_header_of, records_from}
 use Rattle.capture.proofs.Headers.{record_header_says}
@@ -17,6 +15,8 @@ use Rattle.judge_capture.specs.Window.{window, Grown, FrameShort, FrameGathers, 
 use Rattle.judge_capture.specs.declared.Next.{Next}
 use Rattle.judge_capture.specs.declared.Next.TheVariants.{Record, AtEnd, Cut, Failed}
 use Rattle.judge_capture.proofs.Windows.{window_parts}
+use Rattle.std.specs.Prelude.{None, Some}
+use Rattle.capture.specs.Records.{header_with}
 
 -- an empty window at the file's end
 pub at_end_lem : {old room : List ℕ} {left : ℕ} → Grown old room 0 left → left ≡ 0 → old ≡ []
@@ -30,7 +30,7 @@ pub window_size_lem : (room : List ℕ) (from have : ℕ) → from ≤ have → 
 window_size_lem room from have o w = let d = length-drop from room in length-take-le (have - from) (drop from room) (omega arith)
 
 -- the captured length is within what a frame may have
-pub captured_most : (order : Order) (s : List ℕ) {captured original : ℕ} → record_header_of order s ≡ Frame captured original → captured ≤ frame_most
+pub captured_most : (order : Order) (s : List ℕ) {captured original : ℕ} → record_header_of order s ≡ header_with captured original → captured ≤ frame_most
 captured_most order s {captured} {original} e = ((record_header_says.record_there order s captured original).0 e).captured_most
 
 -- the bytes that were there and those that were read, by their number
@@ -74,21 +74,21 @@ module _ {old room : List ℕ} {at behind end : ℕ} (g : Grown old room at end)
   bytes_more : (more : List ℕ) → old ++ (g.read ++ more) ≡ header ++ (rest ++ more)
   bytes_more more = sym (append_assoc old g.read more) ∙ ap (λ (s : List ℕ). s ++ more) bytes ∙ append_assoc header rest more
 
-  pub capture_there : {order : Order} → at ≡ 0 → behind - at ≡ file_header_size → file_header_of header ≡ Ethernet order → CaptureThere room order behind end
+  pub capture_there : {order : Order} → at ≡ 0 → behind - at ≡ file_header_size → file_header_of header ≡ Some order → CaptureThere room order behind end
   capture_there f z e =
       let n : behind ≡ file_header_size = omega arith in
       record { behind_header = n; ordered = w; within = g.within; header_says = rw (f, n) at e }
 
   module _ (order : Order) (z : behind - at ≡ record_header_size) where
-    pub header_cut : record_header_of order header ≡ HeaderCut → CutThere order old
+    pub header_cut : record_header_of order header ≡ None → CutThere order old
     header_cut e = record {
       read = g.read;
       cut = ap (records_from order) bytes ∙ cut_by_header order header rest (header_there ∙ z) e;
     }
 
-    pub record_there : {captured original : ℕ} (after : List ℕ) → record_header_of order header ≡ Frame captured original
+    pub record_there : {captured original : ℕ} (after : List ℕ) → record_header_of order header ≡ header_with captured original
         → (r : Next) → FrameGathers rest after captured original r → NextIs order old after r
-    record_there after e (Record first last whole have) f = record {
+    record_there after e (Record frame whole until) f = record {
       frame_ordered = f.frame_ordered;
       frame_within = f.frame_within;
       within = f.grown.within;

@@ -5,14 +5,13 @@ use mathlib.Core.List.{List, [], ◌++◌, append-nil}
 use native.Mathlib.Omega.{arith}
 use lib.ListN.{length, take, drop, take-append-drop}
 use lib.Seq.{length-take-le, take-take, take-add, drop-drop}
-use Rattle.file_verdict.specs.declared.Content.{Content}
-use Rattle.file_verdict.specs.declared.Content.TheVariants.{Unreadable, Size}
 use Rattle.file_verdict.specs.declared.Progress.{Progress}
 use Rattle.file_verdict.specs.declared.Progress.TheVariants.{Ended}
 use Rattle.program_files.specs.Reads.{ReadMeans}
 use Rattle.program_files.proofs.Turns.{ended_at}
-use Rattle.judge_capture.specs.Window.{window, Grown, ended_by, Gathers, AtFront}
-use Rattle.judge_capture.specs.declared.Gathered.TheVariants.{Window}
+use Rattle.judge_capture.specs.Window.{window, Grown, Gathers}
+use Rattle.judge_capture.specs.declared.Gathered.TheVariants.{Enough, Ended as GatheredEnded, Failed}
+use Rattle.std.specs.Prelude.{Some}
 
 -- nothing was read
 pub grown_same : (room : List ℕ) (from have : ℕ) → from ≤ have → have ≤ length room → Grown (window room from have) room from have
@@ -66,13 +65,15 @@ module _ {old : List ℕ} {have : ℕ} {room : List ℕ} {size : ℕ} (f : Filli
   filling_grown : Grown (take have old) room 0 size
   filling_grown = let w = f.within in let l = f.long in grown_front (take have old) room have size f.started (omega arith) f.kept
 
-  pub filling_window : (want : ℕ) → want ≤ size → Gathers (take have old) want room (Window 0 size)
+  pub filling_window : (want : ℕ) → want ≤ size → Gathers (take have old) want room (Enough (record { from = 0; end = size }))
   filling_window want h = (filling_grown, omega arith)
 
-  pub filling_ended : (want : ℕ) (content : Content) {k : ℕ} {progress : Progress} → size < want → ReadMeans size k progress → progress ≡ Ended content
-      → Gathers (take have old) want room (ended_by content) × AtFront (ended_by content)
-  filling_ended want Unreadable h m e =
+  pub filling_ended : (want : ℕ) {left k : ℕ} {progress : Progress} → size < want → ReadMeans size k progress → progress ≡ Ended (Some left)
+      → Gathers (take have old) want room (GatheredEnded left)
+  filling_ended want h m e = let z = ended_at m e in rw z (filling_grown, h)
+
+  pub filling_failed : (want : ℕ) → size < want → Gathers (take have old) want room Failed
+  filling_failed want h =
       let s = f.started in
       let w = f.within in
-      (omega (arith, length-take-le have old (omega arith)), tt)
-  filling_ended want (Size n) h m e = let z = ended_at m e in (rw z (filling_grown, h), tt)
+      omega (arith, length-take-le have old (omega arith))

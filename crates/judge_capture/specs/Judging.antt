@@ -1,15 +1,12 @@
 -- How far the judging of a recording is: which records have been judged, what is left of the bytes that were read, the marks and the received counters,
 -- and the lines that wait to be written.
-use Rattle.std.specs.Prelude.{ℕ, ◌+◌, ◌-◌, ◌^◌, ◌≤◌, ◌≡◌, ◌⊎◌, cond, List, [], ◌∷◌, ◌++◌, leb, length, take}
-use Rattle.std.proofs.Math.Option.{some}
+use Rattle.std.specs.Prelude.{ℕ, ◌+◌, ◌-◌, ◌^◌, ◌≤◌, ◌≡◌, ◌⊎◌, cond, List, [], ◌∷◌, ◌++◌, leb, length, take, IfOk, Result, Some}
 use Rattle.key_book.specs.Book.{Book}
 use Rattle.verdict_line.specs.declared.Line.TheVariants.{Cut}
 use Rattle.verdict_line.specs.Line.{numbered_most, line_of}
 use Rattle.capture.specs.declared.Order.{Order}
 use Rattle.capture.specs.Records.{Record, in_front, records_from, records_of}
 use Rattle.capture_verdict.specs.Lines.{record_lines, book_at_end, numbered}
-use Rattle.judge_capture.specs.declared.Waiting.{Waiting}
-use Rattle.judge_capture.specs.declared.Waiting.TheVariants.{Size, Broken}
 
 -- From the first bytes behind the file's header: whatever the file has behind those that were read, its records are these and then those of the bytes
 -- that are left.
@@ -50,9 +47,8 @@ pub record Waited (order : Order) (b : Book) (first marks received out : List �
   pub last : Last order judged.left (length judged.records) end
   pub text : take size out ≡ after_lines (length out) [] (numbered 1 (record_lines b judged.records)) ++ end
 
-abbrev pub LinesWait : Order → Book → (first marks received out : List ℕ) → Waiting → Type 0
-LinesWait order b first marks received out (Size size) = Waited order b first marks received out size
-LinesWait order b first marks received out (Broken error) = Unit {0}
+abbrev pub LinesWait : {E : Type 0} → Order → Book → (first marks received out : List ℕ) → Result ℕ E → Type 0
+LinesWait order b first marks received out waiting = IfOk waiting (λ size. Waited order b first marks received out size)
 
 -- ---- the whole file
 
@@ -62,7 +58,7 @@ pub record Recorded (b : Book) (marks received : List ℕ) : Type 0 where
   pub order : Order
   pub records : List Record
   pub left : List ℕ
-  pub so_far : (rest : List ℕ) → records_of (front ++ rest) ≡ some (in_front records (records_from order (left ++ rest)))
+  pub so_far : (rest : List ℕ) → records_of (front ++ rest) ≡ Some (in_front records (records_from order (left ++ rest)))
   pub rows_heard : marks ≡ (book_at_end b records).marks
   pub counters : received ≡ (book_at_end b records).received
 

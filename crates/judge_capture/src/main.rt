@@ -10,13 +10,13 @@ ghost use Rattle.key_book.specs.Book.{book_of};
 ghost use Rattle.verdict_line.specs.Line.{numbered_most, numbered_line, PutAt};
 ghost use Rattle.capture.specs.Layout.{file_header_size, frame_most};
 ghost use Rattle.capture_verdict.specs.Lines.{record_line, marks_by, received_by};
-ghost use Rattle.judge_capture.specs.Window.{window, ended_by, Gathers, AtFront, FrameGathers, NextIs, is_cut, end_line};
+ghost use Rattle.judge_capture.specs.Window.{in_window, Gathers, AtFront, FrameGathers, NextIs, is_cut, end_line};
 ghost use Rattle.judge_capture.specs.Window.{RoomMade, RoomFor, WaitsWithin, OpensAs};
 ghost use Rattle.judge_capture.specs.Judging.{Judged, LinesWait, RecordingJudged};
 
-use capture::{FILE_HEADER_SIZE, FRAME_MOST, FileHeader, Order, RECORD_HEADER_SIZE, RecordHeader};
-use file_verdict::{Content, Loaded, Progress};
-use key_book::{ROWS_MOST, SLOT_SIZE};
+use capture::{FILE_HEADER_SIZE, FRAME_MOST, Order, RECORD_HEADER_SIZE};
+use file_verdict::Progress;
+use key_book::{LentRoom, ROWS_MOST, SLOT_SIZE};
 use std::fs::File;
 use std::io;
 use std::io::Read;
@@ -26,11 +26,19 @@ use verdict_line::{LINE_MOST, Line, NUMBERED_MOST};
 // The room for the window of the file, which the largest frame fits, and the room for the lines.
 const ROOM: usize = FRAME_MOST + 1;
 
-// What was gathered of the file.
-#[derive(Clone, Copy)]
+// The part of a room that holds bytes of the file: from one offset to another. Its two facts stand in contracts, as `Gathers` and `NextIs` give them: one of
+// them is of the room too.
+#[derive(Clone, Copy, Debug, PartialEq, Eq)]
+struct Window {
+    from: usize,
+    end: usize,
+}
+
+// What was gathered of the file. The recording and the lines stand in arrays of a fixed size, with offsets: nothing is allocated.
+#[derive(Clone, Copy, Debug, PartialEq, Eq)]
 enum Gathered {
-    // At least as many bytes as were wanted: the window is from the first offset to the second.
-    Window(usize, usize),
+    // At least as many bytes as were wanted: they stand here.
+    Enough(Window),
     // The file ended before; so many bytes of it are left.
     Ended(usize),
     // A read failed.
@@ -38,10 +46,14 @@ enum Gathered {
 }
 
 // The file's next record.
-#[derive(Clone, Copy)]
+#[derive(Clone, Copy, Debug, PartialEq, Eq)]
 enum Next {
-    // Its frame is from the first offset to the second; then how many bytes the frame had, and where the window ends.
-    Record(usize, usize, usize, usize),
+    // Its frame, how many bytes the frame had, and where the window behind the frame ends.
+    Record {
+        frame: Window,
+        original: usize,
+        until: usize,
+    },
     // There is none.
     AtEnd,
     // The file ends inside it, or its captured length is too large.
@@ -50,46 +62,21 @@ enum Next {
     Failed,
 }
 
-// The lines that wait to be written.
-#[derive(Clone, Copy)]
-enum Waiting {
-    // They have so many bytes, from the room's front on.
-    Size(usize),
-    // A write failed, for this reason.
-    Broken(io::Error),
-}
-
-// What opening the recording gives.
-#[derive(Clone, Copy)]
-enum Opening {
-    Unreadable,
-    // A capture with numbers in this order; the window behind its header is from the first offset to the second.
-    Capture(Order, usize, usize),
+// A capture that is open: the byte order of its numbers, and the window behind its header.
+#[derive(Clone, Copy, Debug, PartialEq, Eq)]
+struct Opening {
+    order: Order,
+    window: Window,
 }
 
 // Moves the window to the room's front, and returns its size.
-fn move_front(room: &mut [u8], from: usize, have: usize) -> usize
-    requires from_le_have { from ≤ have }
-    requires have_in_bounds { have ≤ length room.old }
-    ensures { (result ≡ have - from) × (take result room.new ≡ window room.old from have) }
+fn move_front(room: &mut [u8], window: Window) -> usize
+    requires ordered { window.from ≤ window.end }
+    requires within { window.end ≤ length room.old }
+    ensures { (result ≡ window.end - window.from) × (take result room.new ≡ in_window room.old window) }
 {
-    let size = have - from;
-    let mut i: usize = 0;
-    while i < size {
-        room[i] = room[from + i];
-        i += 1;
-    }
-    size
-}
-
-// What it means for the window that the reading ended.
-fn ended(content: Content) -> Gathered
-    ensures { result ≡ ended_by content }
-{
-    match content {
-        Content::Unreadable => Gathered::Failed,
-        Content::Size(left) => Gathered::Ended(left),
-    }
+    room.copy_within(window.from..window.end, 0);
+    window.end - window.from
 }
 
 // Reads until the window, which is at the room's front, has as many bytes as are wanted.
@@ -99,28 +86,29 @@ fn fill<F: Read>(file: &mut F, room: &mut [u8], have: usize, want: usize) -> Gat
     ensures gathered { Gathers (take have room.old) want room.new result }
     ensures front { AtFront result }
 {
+    // No `for`: each read says how far it goes on.
     let mut size = have;
     while size < want {
-        let progress = program_files::read_more(file, room, size);
-        match progress {
-            Progress::Ended(content) => return ended(content),
+        match program_files::read_more(file, room, size) {
             Progress::More(more) => size = more,
+            Progress::Ended(Some(left)) => return Gathered::Ended(left),
+            Progress::Ended(None) => return Gathered::Failed,
         }
     }
-    Gathered::Window(0, size)
+    Gathered::Enough(Window { from: 0, end: size })
 }
 
 // Sees to it that the window has as many bytes as are wanted.
-fn gather<F: Read>(file: &mut F, room: &mut [u8], from: usize, have: usize, want: usize) -> Gathered
-    requires from_le_have { from ≤ have }
-    requires have_in_bounds { have ≤ length room.old }
+fn gather<F: Read>(file: &mut F, room: &mut [u8], window: Window, want: usize) -> Gathered
+    requires ordered { window.from ≤ window.end }
+    requires within { window.end ≤ length room.old }
     requires want_in_bounds { want ≤ length room.old }
-    ensures { Gathers (window room.old from have) want room.new result }
+    ensures { Gathers (in_window room.old window) want room.new result }
 {
-    if want <= have - from {
-        return Gathered::Window(from, have);
+    if want <= window.end - window.from {
+        return Gathered::Enough(window);
     }
-    let size = move_front(room, from, have);
+    let size = move_front(room, window);
     fill(file, room, size, want)
 }
 
@@ -128,58 +116,53 @@ fn gather<F: Read>(file: &mut F, room: &mut [u8], from: usize, have: usize, want
 fn gather_frame<F: Read>(
     file: &mut F,
     room: &mut [u8],
-    from: usize,
-    have: usize,
+    window: Window,
     captured: usize,
     original: usize,
 ) -> Next
-    requires from_le_have { from ≤ have }
-    requires have_in_bounds { have ≤ length room.old }
+    requires ordered { window.from ≤ window.end }
+    requires within { window.end ≤ length room.old }
     requires captured_in_bounds { captured ≤ length room.old }
-    ensures { FrameGathers (window room.old from have) room.new captured original result }
+    ensures { FrameGathers (in_window room.old window) room.new captured original result }
 {
-    let gathered = gather(file, room, from, have, captured);
-    match gathered {
+    match gather(file, room, window, captured) {
         Gathered::Failed => Next::Failed,
-        Gathered::Ended(left) => Next::Cut,
-        Gathered::Window(at, end) => Next::Record(at, at + captured, original, end),
+        Gathered::Ended(..) => Next::Cut,
+        Gathered::Enough(Window { from, end: until }) => Next::Record {
+            frame: Window {
+                from,
+                end: from + captured,
+            },
+            original,
+            until,
+        },
     }
 }
 
 // Takes the header of the next record, and then gathers its frame: so the largest frame fits the room.
-fn next_record<F: Read>(
-    file: &mut F,
-    order: Order,
-    room: &mut [u8],
-    from: usize,
-    have: usize,
-) -> Next
-    requires from_le_have { from ≤ have }
-    requires have_in_bounds { have ≤ length room.old }
+fn next_record<F: Read>(file: &mut F, order: Order, room: &mut [u8], window: Window) -> Next
+    requires ordered { window.from ≤ window.end }
+    requires within { window.end ≤ length room.old }
     requires frame_most_in_bounds { frame_most ≤ length room.old }
-    ensures { NextIs order (window room.old from have) room.new result }
+    ensures { NextIs order (in_window room.old window) room.new result }
 {
-    let gathered = gather(file, room, from, have, RECORD_HEADER_SIZE);
-    match gathered {
+    match gather(file, room, window, RECORD_HEADER_SIZE) {
         Gathered::Failed => Next::Failed,
-        Gathered::Ended(left) => {
-            if left == 0 {
-                return Next::AtEnd;
-            }
-            Next::Cut
-        }
-        Gathered::Window(at, end) => {
-            let behind = at + RECORD_HEADER_SIZE;
-            let header = capture::record_header(order, &room[at..behind]);
-            let RecordHeader::Frame(captured, original) = header else {
+        Gathered::Ended(0) => Next::AtEnd,
+        Gathered::Ended(_) => Next::Cut,
+        Gathered::Enough(Window { from: at, end }) => {
+            let from = at + RECORD_HEADER_SIZE;
+            let Some(header) = capture::record_header(order, &room[at..from]) else {
                 return Next::Cut;
             };
-            gather_frame(file, room, behind, end, captured, original)
+            let behind = Window { from, end };
+            gather_frame(file, room, behind, header.captured, header.original)
         }
     }
 }
 
-// Adds a record's line behind those that wait, and returns where it ends.
+// Adds a record's line behind those that wait, and returns where it ends. Room and end go from call to call as in verdict_line: the room is lent, and a struct
+// that lends holds slices alone (tools/promises.py).
 fn add_line(out: &mut [u8], size: usize, number: u64, line: Line) -> usize
     requires { size + numbered_most ≤ length out.old }
     ensures put_at { PutAt out.old size (numbered_line number line) out.new result }
@@ -188,7 +171,9 @@ fn add_line(out: &mut [u8], size: usize, number: u64, line: Line) -> usize
     size + verdict_line::write_numbered(&mut out[size..], number, line)
 }
 
-// Judges a frame that had `original` bytes, and adds the line with this number behind those that wait. It returns where the line ends.
+// Judges a frame that had `original` bytes, and adds the line with this number behind those that wait. It returns where the line ends. Here and below the
+// book's lists come one by one, as a check takes them: two are lent to be written and the others to be read, and a struct that holds a `&mut` holds nothing
+// else (tools/promises.py); a `LentRoom` would ask for leave to write them all.
 fn judge_frame(
     frame: &[u8],
     original: usize,
@@ -219,31 +204,24 @@ fn judge_frame(
 }
 
 // Writes the lines that wait if there may be no room for one more.
-fn make_room<P: Print>(rt: &P, out: &[u8], size: usize) -> Waiting
+fn make_room<P: Print>(rt: &P, out: &[u8], size: usize) -> io::Result<usize>
     requires numbered_most_in_bounds { numbered_most ≤ length out.now }
     requires size_in_bounds { size ≤ length out.now }
     ensures left { RoomMade size (length out.now) result }
     ensures fits { RoomFor (length out.now) result }
 {
     if size <= out.len() - NUMBERED_MOST {
-        return Waiting::Size(size);
+        return Ok(size);
     }
-    match rt.write_all(&out[..size]) {
-        Ok(()) => Waiting::Size(0),
-        Err(error) => Waiting::Broken(error),
-    }
+    rt.write_all(&out[..size])?;
+    Ok(0)
 }
 
 // Whether the line `cut` is written where this comes next.
 fn is_cut(next: Next) -> bool
     ensures { result ≡ is_cut next }
 {
-    match next {
-        Next::Record(at, end, original, have) => false,
-        Next::AtEnd => false,
-        Next::Cut => true,
-        Next::Failed => true,
-    }
+    matches!(next, Next::Cut | Next::Failed)
 }
 
 // Adds the line `cut` behind those that wait, where this comes next and wants it, and returns where they end.
@@ -265,8 +243,7 @@ fn judge_records<F: Read, P: Print>(
     rt: &P,
     order: Order,
     room: &mut [u8],
-    start: usize,
-    held: usize,
+    start: Window,
     out: &mut [u8],
     ids: &[u32],
     lengths: &[u8],
@@ -275,29 +252,31 @@ fn judge_records<F: Read, P: Print>(
     received: &mut [u64],
     sent: &[u64],
     rows: usize,
-) -> Waiting
-    requires start_le_held { start ≤ held }
-    requires held_in_bounds { held ≤ length room.old }
+) -> io::Result<usize>
+    requires start_ordered { start.from ≤ start.end }
+    requires start_within { start.end ≤ length room.old }
     requires frame_most_in_bounds { frame_most ≤ length room.old }
     requires numbered_most_in_bounds { numbered_most ≤ length out.old }
     ensures judged { let b = book_of ids.now lengths.now store.now marks.old received.old sent.now rows in
-        Judged order b (window room.old start held) marks.new received.new }
+        Judged order b (in_window room.old start) marks.new received.new }
     ensures within { WaitsWithin (length out.new) result }
     ensures lines { let b = book_of ids.now lengths.now store.now marks.old received.old sent.now rows in
-        LinesWait order b (window room.old start held) marks.new received.new out.new result }
+        LinesWait order b (in_window room.old start) marks.new received.new out.new result }
 {
     let mut size: usize = 0;
-    let mut number: u64 = 0;
-    let mut from = start;
-    let mut have = held;
-    while number < u64::MAX {
-        let next = next_record(file, order, room, from, have);
-        let Next::Record(at, end, original, until) = next else {
-            return Waiting::Size(add_end(out, size, next));
+    let mut window = start;
+    for number in 1..=u64::MAX {
+        let next = next_record(file, order, room, window);
+        let Next::Record {
+            frame,
+            original,
+            until,
+        } = next
+        else {
+            return Ok(add_end(out, size, next));
         };
-        number += 1;
         let added = judge_frame(
-            &room[at..end],
+            &room[frame.from..frame.end],
             original,
             number,
             out,
@@ -310,43 +289,27 @@ fn judge_records<F: Read, P: Print>(
             sent,
             rows,
         );
-        let waiting = make_room(rt, out, added);
-        let left = match waiting {
-            Waiting::Size(left) => left,
-            Waiting::Broken(error) => return Waiting::Broken(error),
+        size = make_room(rt, out, added)?;
+        window = Window {
+            from: frame.end,
+            end: until,
         };
-        size = left;
-        from = end;
-        have = until;
     }
-    Waiting::Size(size)
+    Ok(size)
 }
 
-// Writes the lines that wait, or hands on why a write failed.
-fn finish<P: Print>(rt: &P, out: &[u8], waiting: Waiting) -> io::Result<()>
-    requires { WaitsWithin (length out.now) waiting }
-{
-    match waiting {
-        Waiting::Size(size) => rt.write_all(&out[..size]),
-        Waiting::Broken(error) => Err(error),
-    }
-}
-
-// Looks at the header of an open file.
-fn open_capture<F: Read>(file: &mut F, room: &mut [u8]) -> Opening
+// Looks at the header of an open file; None where it is no capture.
+fn open_capture<F: Read>(file: &mut F, room: &mut [u8]) -> Option<Opening>
     requires { file_header_size ≤ length room.old }
     ensures { OpensAs room.new result }
 {
-    let gathered = fill(file, room, 0, FILE_HEADER_SIZE);
-    let Gathered::Window(at, have) = gathered else {
-        return Opening::Unreadable;
+    let Gathered::Enough(Window { from: at, end }) = fill(file, room, 0, FILE_HEADER_SIZE) else {
+        return None;
     };
-    let behind = at + FILE_HEADER_SIZE;
-    let header = capture::file_header(&room[at..behind]);
-    match header {
-        FileHeader::Other => Opening::Unreadable,
-        FileHeader::Ethernet(order) => Opening::Capture(order, behind, have),
-    }
+    let from = at + FILE_HEADER_SIZE;
+    let order = capture::file_header(&room[at..from])?;
+    let window = Window { from, end };
+    Some(Opening { order, window })
 }
 
 fn write_unreadable<P: Print>(rt: &P) -> io::Result<()> {
@@ -373,16 +336,26 @@ fn judge_recording<R: Files + Print>(
         return write_unreadable(rt);
     };
     let mut room = [0u8; ROOM];
-    let opening = open_capture(&mut file, &mut room);
-    let Opening::Capture(order, from, have) = opening else {
+    let Some(capture) = open_capture(&mut file, &mut room) else {
         return write_unreadable(rt);
     };
     let mut out = [0u8; ROOM];
-    let waiting = judge_records(
-        &mut file, rt, order, &mut room, from, have, &mut out, ids, lengths, store, marks,
-        received, sent, rows,
-    );
-    finish(rt, &out, waiting)
+    let size = judge_records(
+        &mut file,
+        rt,
+        capture.order,
+        &mut room,
+        capture.window,
+        &mut out,
+        ids,
+        lengths,
+        store,
+        marks,
+        received,
+        sent,
+        rows,
+    )?;
+    rt.write_all(&out[..size])
 }
 
 fn main(rt: HostRuntime) -> io::Result<()> {
@@ -394,16 +367,18 @@ fn main(rt: HostRuntime) -> io::Result<()> {
     let mut sent = [0u64; ROWS_MOST];
     let loaded = program_files::load_book(
         &rt,
-        &mut ids,
-        &mut lengths,
-        &mut store,
-        &mut marks,
-        &mut received,
-        &mut sent,
+        &mut LentRoom {
+            ids: &mut ids,
+            lengths: &mut lengths,
+            store: &mut store,
+            marks: &mut marks,
+            received: &mut received,
+            sent: &mut sent,
+        },
     );
     match loaded {
-        Loaded::Stopped(line) => write_unreadable(&rt),
-        Loaded::Rows(rows) => judge_recording(
+        Err(_) => write_unreadable(&rt),
+        Ok(rows) => judge_recording(
             &rt,
             &ids,
             &lengths,

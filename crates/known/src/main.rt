@@ -6,8 +6,7 @@
 
 ghost use Rattle.known.specs.Program.{SomeCard};
 
-use key_book::{ROWS_MOST, SLOT_SIZE};
-use known_verdict::Asked;
+use key_book::{LentRoom, ROWS_MOST, SLOT_SIZE};
 use program_files::FILE_ROOM;
 use std::env::{Env, FillError};
 use std::io;
@@ -25,18 +24,18 @@ fn count_words(rt: &impl Env) -> usize {
     usize::MAX
 }
 
-// What the argument asks for. One that is longer than the room has size 0 there, and no id is empty.
-fn asked(rt: &impl Env) -> Asked {
+// What the argument asks for. One that is longer than the room has size 0 there, and no id is empty: so the library is asked about every argument, and decides.
+fn asked(rt: &impl Env) -> Option<u32> {
     let mut room = [0u8; FILE_ROOM];
     let size = rt.arg(1, &mut room).unwrap_or(0);
     known_verdict::read_argument(count_words(rt), size, &room)
 }
 
 // The line for what is asked for. The card is looked at only where that is an id.
-fn asked_line<R: Files>(rt: &R, asked: Asked) -> Line
+fn asked_line<R: Files>(rt: &R, asked: Option<u32>) -> Line
     ensures { SomeCard asked result }
 {
-    let Asked::Id(id) = asked else {
+    let Some(id) = asked else {
         return Line::Unreadable;
     };
     let mut ids = [0u32; ROWS_MOST];
@@ -47,12 +46,14 @@ fn asked_line<R: Files>(rt: &R, asked: Asked) -> Line
     let mut sent = [0u64; ROWS_MOST];
     let loaded = program_files::load_book(
         rt,
-        &mut ids,
-        &mut lengths,
-        &mut store,
-        &mut marks,
-        &mut received,
-        &mut sent,
+        &mut LentRoom {
+            ids: &mut ids,
+            lengths: &mut lengths,
+            store: &mut store,
+            marks: &mut marks,
+            received: &mut received,
+            sent: &mut sent,
+        },
     );
     known_verdict::known_line(loaded, &ids, id)
 }

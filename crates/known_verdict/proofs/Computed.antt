@@ -8,7 +8,7 @@ use Rattle.book_card.specs.Layout.{mark_size, row_kind}
 use Rattle.book_card.specs.Reader.{form_in, mark_in, front_of, front_from, rows_in_front, read_card}
 use Rattle.book_card.specs.Reading.{slots_of, loaded, read_of, rows_in, read_book}
 use Rattle.file_verdict.specs.Files.{readable, loaded_of, book_loaded}
-use Rattle.known_verdict.specs.Argument.{digits_only, value_behind, id_behind, id_in, asked_of}
+use Rattle.known_verdict.specs.Argument.{digits_only, value_behind, id_behind, id_in}
 use Rattle.known_verdict.specs.Asked.{known_line}
 use Rattle.known_verdict.specs.Examples.{IdExamples, KnownExamples}
 
@@ -30,7 +30,7 @@ id_examples = record {
 }
 
 pub known_examples : KnownExamples
-unfolding digits_only value_behind id_behind id_in asked_of known_line halved_in halved taken known_of written filled value little_at sized mark_fits
+unfolding digits_only value_behind id_behind id_in known_line halved_in halved taken known_of written filled value little_at sized mark_fits
     mark_size row_kind form_in mark_in front_of front_from rows_in_front read_card slots_of loaded read_of rows_in read_book readable loaded_of
     book_loaded
 known_examples = record {

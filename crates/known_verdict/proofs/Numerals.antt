@@ -2,7 +2,7 @@
 use mathlib.Core.Path.{◌≡◌, refl, sym, ap, ◌∙◌}
 use mathlib.Core.Bool.{Bool, true, false, cond, ◌&&◌, and-eq-true_iff}
 use mathlib.Core.List.{List, [], ◌∷◌, ◌++◌, append-nil, append_assoc}
-use mathlib.Core.Option.{Option, none, some, some-injective}
+use Rattle.std.proofs.lemmas.Option.{same_Some}
 use Prim.Native.Nat.{ℕ, zero, suc, ◌/◌, ◌%◌, ◌≤◌, ◌<◌}
 use native.Mathlib.Omega.{arith}
 use borrow.Author.Tests.{lt-ltb, le-leb, leb-true, ltb-true, ltb-false, eqb-true, eqb-false}
@@ -12,9 +12,10 @@ use Rattle.verdict_line.specs.Decimal.{digit_zero, digit, decimal}
 use Rattle.verdict_line.proofs.Says.{decimal_says}
 use Rattle.known_verdict.specs.Argument.{ids_limit, digit_nine, is_digit, digits_only, digit_behind, value_behind, id_behind, id_in}
 use Rattle.known_verdict.specs.Laws.{IsId, NotId, IdSays}
+use Rattle.std.specs.Prelude.{None, Option, Some}
 
 -- a digit's bounds, and what stands behind it
-digit_first : (c : ℕ) (text : List ℕ) → digits_only (c ∷ text) ≡ true → ((digit_zero ≤ c) × (c ≤ digit_nine)) × (digits_only text ≡ true)
+pub digit_first : (c : ℕ) (text : List ℕ) → digits_only (c ∷ text) ≡ true → ((digit_zero ≤ c) × (c ≤ digit_nine)) × (digits_only text ≡ true)
 unfolding digits_only
 digit_first c text d =
     let p = (and-eq-true_iff (is_digit c) (digits_only text)).0 d in
@@ -117,35 +118,35 @@ zeros_read (suc count) r = let s = zeros_read count r in record { some_digit = o
 
 -- ---- both ways
 
-read_is : (text : List ℕ) {n : ℕ} → ReadAs text n → n < ids_limit → id_in text ≡ some n
+read_is : (text : List ℕ) {n : ℕ} → ReadAs text n → n < ids_limit → id_in text ≡ Some n
 unfolding id_in id_behind
 read_is [] r h = absurd (omega (arith, r.some_digit))
 read_is (c ∷ text) {n} r h = rw (r.only, r.value, lt-ltb n ids_limit h)
 
-is_read : (text : List ℕ) (id : ℕ) → id_in text ≡ some id → IsId text id
+is_read : (text : List ℕ) (id : ℕ) → id_in text ≡ Some id → IsId text id
 unfolding id_in id_behind
 is_read [] id e = absurd (let z : ◌≡◌ {A = ℕ} 0 1 = cc in omega arith)
 is_read (c ∷ text) id e = on (digits_only (c ∷ text)) refl (ltb (value_behind 0 (c ∷ text)) ids_limit) refl e
   where
     on : (s : Bool) → digits_only (c ∷ text) ≡ s → (t : Bool) → ltb (value_behind 0 (c ∷ text)) ids_limit ≡ t
-        → cond (s && t) (some (value_behind 0 (c ∷ text))) none ≡ some id → IsId (c ∷ text) id
+        → cond (s && t) (Some (value_behind 0 (c ∷ text))) None ≡ Some id → IsId (c ∷ text) id
     on true d true l f =
-        let v : value_behind 0 (c ∷ text) ≡ id = some-injective _ _ f in
+        let v : value_behind 0 (c ∷ text) ≡ id = same_Some _ _ f in
         let m = numeral c text d in
         let h = ltb-true (value_behind 0 (c ∷ text)) ids_limit l in
         rw (← v) (record { below = h; before = m.count; digits = m.digits })
     on true d false l f = absurd (let z : ◌≡◌ {A = ℕ} 0 1 = cc in omega arith)
     on false d t l f = absurd (let z : ◌≡◌ {A = ℕ} 0 1 = cc in omega arith)
 
-id_read : (text : List ℕ) (id : ℕ) → IsId text id → id_in text ≡ some id
+id_read : (text : List ℕ) (id : ℕ) → IsId text id → id_in text ≡ Some id
 id_read text id i = rw i.digits (read_is _ (zeros_read i.before (decimal_read (suc id) id (omega arith))) i.below)
 
-none_read : (text : List ℕ) → NotId text → id_in text ≡ none
+none_read : (text : List ℕ) → NotId text → id_in text ≡ None
 none_read text f = on (id_in text) refl
   where
-    on : (o : Option ℕ) → id_in text ≡ o → o ≡ none
-    on none e = refl
-    on (some id) e = absurd (f id (is_read text id e))
+    on : (o : Option ℕ) → id_in text ≡ o → o ≡ None
+    on None e = refl
+    on (Some id) e = absurd (f id (is_read text id e))
 
 pub id_says : IdSays
 id_says = record {

@@ -1,9 +1,6 @@
 -- The argument of the program `known`: that it is the only one, and the id that its characters are in decimal. docs/RULES.md, 'A known id'.
-use Rattle.std.specs.Prelude.{Bool, true, cond, ◌&&◌, List, [], ◌∷◌, ℕ, ◌+◌, ◌-◌, ◌*◌, ◌^◌, leb, ltb, eqb, length, take}
-use Rattle.std.proofs.Math.Option.{Option, none, some}
+use Rattle.std.specs.Prelude.{Bool, true, cond, ◌&&◌, List, [], ◌∷◌, ℕ, ◌+◌, ◌-◌, ◌*◌, ◌^◌, leb, ltb, eqb, length, take, None, Option, Some}
 use Rattle.verdict_line.specs.Decimal.{digit_zero}
-use Rattle.known_verdict.specs.declared.Asked.{Asked}
-use Rattle.known_verdict.specs.declared.Asked.TheVariants.{Id, NoId}
 
 -- every id is below this
 abbrev pub ids_limit : ℕ
@@ -36,20 +33,12 @@ value_behind n (c ∷ text) = value_behind (digit_behind n c) text
 
 -- the id that digits behind a number are, if they are digits and their value is below the limit
 unfoldable pub id_behind : ℕ → List ℕ → Option ℕ
-id_behind n text = cond (digits_only text && ltb (value_behind n text) ids_limit) (some (value_behind n text)) none
+id_behind n text = cond (digits_only text && ltb (value_behind n text) ids_limit) (Some (value_behind n text)) None
 
 -- the id that an argument is: there is at least one digit
 unfoldable pub id_in : List ℕ → Option ℕ
-id_in [] = none
+id_in [] = None
 id_in (c ∷ text) = id_behind 0 (c ∷ text)
-
--- the answer of `read_id`
-abbrev pub asked_as : Option ℕ → Asked
-asked_as none = NoId
-asked_as (some id) = Id id
-
-unfoldable pub asked_of : List ℕ → Asked
-asked_of text = asked_as (id_in text)
 
 -- ---- the argument
 
@@ -60,8 +49,8 @@ words_wanted = 2
 -- the only argument of a program that is started with so many words, of which so many bytes stand at a room's front: none where there is not one argument, or
 -- the room has not so many bytes
 unfoldable pub argument_in : (words size : ℕ) → List ℕ → Option (List ℕ)
-argument_in words size room = cond (eqb words words_wanted && leb size (length room)) (some (take size room)) none
+argument_in words size room = cond (eqb words words_wanted && leb size (length room)) (Some (take size room)) None
 
-abbrev pub argument_of : Option (List ℕ) → Asked
-argument_of none = NoId
-argument_of (some text) = asked_of text
+abbrev pub argument_of : Option (List ℕ) → Option ℕ
+argument_of None = None
+argument_of (Some text) = id_in text

@@ -4,73 +4,39 @@
 #![tactic(auto)]
 
 ghost use Rattle.std.specs.Prelude.{◌≡◌};
-ghost use Rattle.known_verdict.specs.Argument.{asked_of, argument_in, argument_of};
+ghost use Rattle.known_verdict.specs.Argument.{id_in, argument_in, argument_of};
 ghost use Rattle.known_verdict.specs.Asked.{sought_line, id_line};
 
-use file_verdict::Loaded;
 use key_book::Sought;
 use refusal::Refusal;
-use verdict_line::{DIGIT_ZERO, Line};
-
-// The last of the digits, the character 9.
-const DIGIT_NINE: u8 = 57;
+use std::str;
+use verdict_line::Line;
 
 // How many words a program is started with that has one argument: its own name is the first.
 const WORDS_WANTED: usize = 2;
 
-// Every id is below this.
-const IDS_LIMIT: u64 = 4294967296;
-
-// What an argument asks for.
-#[derive(Clone, Copy)]
-pub enum Asked {
-    // This id.
-    Id(u32),
-    // It is no id.
-    NoId,
-}
-
-// Reads an id in decimal: one or more digits, zeros in front among them, and nothing else. It ends where the limit is reached, so that nothing wraps,
-// however long the text is.
-fn read_id(text: &[u8]) -> Asked
-    ensures { result ≡ asked_of text.now }
+// Reads an id in decimal: one or more digits, zeros in front among them, and nothing else. The library's `parse` takes a plus sign in front too.
+fn read_id(text: &[u8]) -> Option<u32>
+    ensures { result ≡ id_in text.now }
 {
-    if text.len() == 0 {
-        return Asked::NoId;
+    if text.starts_with(b"+") {
+        return None;
     }
-    let mut id: u64 = 0;
-    let mut i: usize = 0;
-    while i < text.len() {
-        let c = text[i];
-        if c < DIGIT_ZERO {
-            return Asked::NoId;
-        }
-        if DIGIT_NINE < c {
-            return Asked::NoId;
-        }
-        id = id * 10 + (c - DIGIT_ZERO) as u64;
-        if IDS_LIMIT <= id {
-            return Asked::NoId;
-        }
-        i += 1;
-    }
-    Asked::Id(id as u32)
+    str::from_utf8(text).ok()?.parse().ok()
 }
 
-// What the only argument asks for, where the program was started with so many words and so many bytes of the argument stand at the room's front.
-pub fn read_argument(words: usize, size: usize, room: &[u8]) -> Asked
+// What the only argument asks for, where the program was started with so many words and so many bytes of the argument stand at the room's front. A size and a
+// room, and no slice: a size past the room's end is answered too.
+pub fn read_argument(words: usize, size: usize, room: &[u8]) -> Option<u32>
     ensures { result ≡ argument_of (argument_in words size room.now) }
 {
     if words != WORDS_WANTED {
-        return Asked::NoId;
+        return None;
     }
-    if room.len() < size {
-        return Asked::NoId;
-    }
-    read_id(&room[..size])
+    read_id(room.get(..size)?)
 }
 
-// The line for what the search comes to.
+// The line for what the search comes to. No `From`: both types are of other crates.
 fn sought_line(sought: Sought) -> Line
     ensures { result ≡ sought_line sought }
 {
@@ -83,11 +49,11 @@ fn sought_line(sought: Sought) -> Line
 
 // The line for an id, from what the card gave and the ids that were loaded from it: where the card stopped, its line; else whether one of its rows has the
 // id, which is sought by halving.
-pub fn known_line(loaded: Loaded, ids: &[u32], id: u32) -> Line
+pub fn known_line(loaded: Result<usize, Line>, ids: &[u32], id: u32) -> Line
     ensures { result ≡ id_line id ids.now loaded }
 {
     match loaded {
-        Loaded::Stopped(line) => line,
-        Loaded::Rows(rows) => sought_line(key_book::known(ids, rows, id)),
+        Err(line) => line,
+        Ok(rows) => sought_line(key_book::known(ids, rows, id)),
     }
 }

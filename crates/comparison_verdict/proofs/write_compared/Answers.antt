@@ -8,31 +8,31 @@ use Rattle.comparison_verdict.proofs.write_compared.Goals as goal
 
 pub returns-in_default : goal.returns-in_default
 returns-in_default c =
-    let j = rw c.in_default.is at (judged_by_lem _ _ c.within_limit-judged.ensures) in
+    let j = rw c.in_default.is at (judged_by_lem _ _ c.within_limit.ensures) in
     let w = c.write_line.ensures in
     let p = put_same c.args.out.now (first_none _ _ j) (w.size, w.content) in
     record { size = p.0; content = p.1 }
 
-pub returns-in_default-other_judged : goal.returns-in_default-other_judged
-returns-in_default-other_judged c =
-    let i = rw c.in-Size.is at (judged_by_lem _ _ c.within_limit-judged.ensures) in
-    let j = rw c.in_default-other_judged.is at (judged_by_lem _ _ c.within_limit-other_judged.ensures) in
-    let w = c.write_line-in_default-other_judged.ensures in
+pub returns-in_default-within_limit : goal.returns-in_default-within_limit
+returns-in_default-within_limit c =
+    let i = rw c.in-Some.is at (judged_by_lem _ _ c.within_limit.ensures) in
+    let j = rw c.in_default-within_limit.is at (judged_by_lem _ _ c.within_limit-2.ensures) in
+    let w = c.write_line-in_default-within_limit.ensures in
     let p = put_same c.args.out.now (second_none _ _ i.1 j) (w.size, w.content) in
     record { size = p.0; content = p.1 }
 
 pub slice_bounds-write_messages-end : goal.slice_bounds-write_messages-end
 slice_bounds-write_messages-end c =
-    sym (length-take-le _ _ (rw c.in-Size.is at (judged_by_lem _ _ c.within_limit-judged.ensures)).0)
+    sym (length-take-le _ _ (rw c.in-Some.is at (judged_by_lem _ _ c.within_limit.ensures)).0)
 
 pub slice_bounds-write_messages-end-2 : goal.slice_bounds-write_messages-end-2
 slice_bounds-write_messages-end-2 c =
-    sym (length-take-le _ _ (rw c.in-Size-other_judged.is at (judged_by_lem _ _ c.within_limit-other_judged.ensures)).0)
+    sym (length-take-le _ _ (rw c.in-Some-within_limit.is at (judged_by_lem _ _ c.within_limit-2.ensures)).0)
 
 pub returns : goal.returns
 returns c =
-    let i = rw c.in-Size.is at (judged_by_lem _ _ c.within_limit-judged.ensures) in
-    let j = rw c.in-Size-other_judged.is at (judged_by_lem _ _ c.within_limit-other_judged.ensures) in
+    let i = rw c.in-Some.is at (judged_by_lem _ _ c.within_limit.ensures) in
+    let j = rw c.in-Some-within_limit.is at (judged_by_lem _ _ c.within_limit-2.ensures) in
     let w = c.write_messages.ensures in
     let p = put_same c.args.out.now (both_judged _ _ i.1 j.1) (w.size, w.content) in
     record { size = p.0; content = p.1 }

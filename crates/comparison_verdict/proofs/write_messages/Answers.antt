@@ -7,24 +7,24 @@ use Rattle.comparison_verdict.proofs.write_messages.Goals as goal
 
 pub slice_bounds-lines-end : goal.slice_bounds-lines-end
 slice_bounds-lines-end c =
-    let p = lines_put _ _ _ c.in-Size.is c.compare-compared.ensures.answer c.compare-compared.ensures.content in
+    let p = lines_put _ _ _ c.in-Ok.is c.compare.ensures.answer c.compare.ensures.content in
     omega (arith, p.0.place, p.1)
 
 pub slice_bounds-add_bytes-end : goal.slice_bounds-add_bytes-end
 slice_bounds-add_bytes-end c =
-    let p = lines_put _ _ _ c.in-Size.is c.compare-compared.ensures.answer c.compare-compared.ensures.content in
+    let p = lines_put _ _ _ c.in-Ok.is c.compare.ensures.answer c.compare.ensures.content in
     made_size p.0 p.1
 
-pub returns-in-Refused : goal.returns-in-Refused
-returns-in-Refused c =
+pub returns-in-Err : goal.returns-in-Err
+returns-in-Err c =
     let w = c.write_line.ensures in
-    let p = put_same c.args.out.now (report_refused _ _ c.in-Refused.is c.compare-compared.ensures.answer) (w.size, w.content) in
+    let p = put_same c.args.out.now (report_refused _ _ c.in-Err.is c.compare.ensures.answer) (w.size, w.content) in
     record { size = p.0; content = p.1 }
 
-pub returns-in-Size : goal.returns-in-Size
-returns-in-Size c =
-    let e = c.compare-compared.ensures in
-    let l = lines_put _ _ _ c.in-Size.is e.answer e.content in
-    let t = made_take l.0 l.1 ∙ report_lines _ _ c.in-Size.is e.answer in
+pub returns-in-Ok : goal.returns-in-Ok
+returns-in-Ok c =
+    let e = c.compare.ensures in
+    let l = lines_put _ _ _ c.in-Ok.is e.answer e.content in
+    let t = made_take l.0 l.1 ∙ report_lines _ _ c.in-Ok.is e.answer in
     let p = put_same c.args.out.now t (added_front _ _ c.add_bytes.ensures.place c.add_bytes.ensures.content) in
     record { size = p.0; content = p.1 }

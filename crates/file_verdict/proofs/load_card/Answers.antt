@@ -1,35 +1,42 @@
 -- `file_verdict::load_card` meets its contract: the card may not be judged, or it is handed on to reading (proofs/Stages.antt).
-use mathlib.Core.Path.{sym}
+use mathlib.Core.Path.{◌≡◌, sym, ◌∙◌}
 use lib.Seq.{length-take-le}
-use Rattle.key_book.specs.Book.{Book, book_of}
+use Rattle.std.specs.Prelude.{Some}
+use Rattle.std.proofs.lemmas.Result.{err_from_is_err_and}
+use Rattle.refusal.proofs.Raised.{asked_there, asked_none}
+use Rattle.key_book.specs.Book.{Book}
+use Rattle.key_book.specs.Lent.{room_in}
 use Rattle.file_verdict.proofs.Contents.{judged_by_lem}
-use Rattle.file_verdict.proofs.Stages.{card_none, card_read, book_read}
+use Rattle.file_verdict.proofs.Stages.{card_none, card_read, book_read, as_loaded, as_rows}
+use borrow.Author.Rules.{rules}
 use Rattle.file_verdict.proofs.load_card.Goals as goal
-use Rattle.file_verdict.proofs.load_card.Goals.{Start}
+use Rattle.file_verdict.proofs.load_card.Goals.{Start, In_ok-size}
 
 abbrev lent : Start → Book
-lent s = book_of s.args.ids.now s.args.lengths.now s.args.store.now s.args.marks.now s.args.received.now s.args.sent.now 0
+lent s = room_in s.args.book.now 0
 
-pub returns-in_default : goal.returns-in_default
-returns-in_default c =
-    let b = lent (goal.at.returns-in_default c).Start in
-    let p = card_none b _ (rw c.in_default.is at (judged_by_lem _ _ c.within_limit-card.ensures)) in
-    record { answer = p.0; after = p.1 }
+there : (c : In_ok-size) → c.within_limit.result ≡ Some c.in_ok-size.size
+there c = asked_there _ _ (sym c.ok_or.ensures.value ∙ c.in_ok-size.was)
+
+pub returns-in_err-size : goal.returns-in_err-size
+returns-in_err-size c =
+    let b = lent (goal.at.returns-in_err-size c).Start in
+    let n = asked_none _ _ (sym c.ok_or.ensures.value ∙ c.in_err-size.was) in
+    let p = card_none b _ (rw n.0 at (judged_by_lem _ _ c.within_limit.ensures)) in
+    let r = err_from_is_err_and c.from_residual.result c.from_residual.ensures.1 in
+    rw (r.1, r.2, ← n.1) (record { same = search rules; answer = p.0; after = p.1 })
 
 pub slice_bounds-card_read-end : goal.slice_bounds-card_read-end
 slice_bounds-card_read-end c =
-    sym (length-take-le _ _ (rw c.in-Size.is at (judged_by_lem _ _ c.within_limit-card.ensures)).0)
+    sym (length-take-le _ _ (rw (there c) at (judged_by_lem _ _ c.within_limit.ensures)).0)
 
-pub returns-in-Refused : goal.returns-in-Refused
-returns-in-Refused c =
-    let b = lent (goal.at.returns-in-Refused c).Start in
-    let j = (rw c.in-Size.is at (judged_by_lem _ _ c.within_limit-card.ensures)).1 in
-    let e = c.card_read-answer.ensures in
-    record { answer = card_read b _ j c.in-Refused.is e.answer; after = book_read b _ j (rw c.in-Refused.is at e.after) }
-
-pub returns-in-Rows : goal.returns-in-Rows
-returns-in-Rows c =
-    let b = lent (goal.at.returns-in-Rows c).Start in
-    let j = (rw c.in-Size.is at (judged_by_lem _ _ c.within_limit-card.ensures)).1 in
-    let e = c.card_read-answer.ensures in
-    record { answer = card_read b _ j c.in-Rows.is e.answer; after = book_read b _ j (rw c.in-Rows.is at e.after) }
+pub returns : goal.returns
+returns c =
+    let b = lent (goal.at.returns c).Start in
+    let j = (rw (there (goal.at.returns c).In_ok-size) at (judged_by_lem _ _ c.within_limit.ensures)).1 in
+    let m = as_loaded c.card_read.result c.map_err.ensures.cases in
+    record {
+      same = c.card_read.ensures.same;
+      answer = card_read b _ j m c.card_read.ensures.answer;
+      after = rw (m, as_rows c.card_read.result) (book_read b _ j c.card_read.ensures.after);
+    }

@@ -1,5 +1,5 @@
 -- `file_verdict::message_line` meets its contract: the message may not be judged, or it is handed on to the check (proofs/Stages.antt).
-use mathlib.Core.Path.{refl, sym, ◌∙◌}
+use mathlib.Core.Path.{sym}
 use lib.Seq.{length-take-le}
 use Rattle.key_book.specs.Book.{Book, book_of}
 use Rattle.file_verdict.proofs.Contents.{judged_by_lem}
@@ -15,20 +15,20 @@ lent s =
 pub returns-in_default : goal.returns-in_default
 returns-in_default c =
     let b = lent (goal.at.returns-in_default c).Start in
-    let p = message_none b _ (rw c.in_default.is at (judged_by_lem _ _ c.within_limit-message.ensures)) in
+    let p = message_none b _ (rw c.in_default.is at (judged_by_lem _ _ c.within_limit.ensures)) in
     record { answer = p.0; marked = p.1.0; stored = p.1.1 }
 
 pub slice_bounds-check-end : goal.slice_bounds-check-end
 slice_bounds-check-end c =
-    sym (length-take-le _ _ (rw c.in-Size.is at (judged_by_lem _ _ c.within_limit-message.ensures)).0)
+    sym (length-take-le _ _ (rw c.in-Some.is at (judged_by_lem _ _ c.within_limit.ensures)).0)
 
 pub returns : goal.returns
 returns c =
     let b = lent (goal.at.returns c).Start in
-    let j = (rw c.in-Size.is at (judged_by_lem _ _ c.within_limit-message.ensures)).1 in
+    let j = (rw c.in-Some.is at (judged_by_lem _ _ c.within_limit.ensures)).1 in
     let e = c.check-verdict.ensures in
     record {
-      answer = c.line_of.ensures ∙ message_checked b _ j refl e.answer;
+      answer = message_checked b _ j c.line_of.ensures e.answer;
       marked = row_marked b _ j e.marked;
       stored = counter_stored b _ j e.stored;
     }

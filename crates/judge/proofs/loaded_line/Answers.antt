@@ -2,8 +2,8 @@
 use Rattle.judge.proofs.Lines.{card_stopped, card_rows}
 use Rattle.judge.proofs.loaded_line.Goals as goal
 
-pub returns-in-Stopped : goal.returns-in-Stopped
-returns-in-Stopped g c = card_stopped _ c.in-Stopped.is
+pub returns-in-Err : goal.returns-in-Err
+returns-in-Err g c = card_stopped _ c.in-Err.is
 
-pub returns-in-Rows : goal.returns-in-Rows
-returns-in-Rows g c = card_rows _ _ _ _ _ _ c.in-Rows.is _ c.message_line.ensures.answer
+pub returns-in-Ok : goal.returns-in-Ok
+returns-in-Ok g c = card_rows _ _ _ _ _ _ c.in-Ok.is _ c.message_line.ensures.answer

@@ -3,8 +3,8 @@ use Rattle.judge_capture.proofs.Windows.{grown_same}
 use borrow.Author.Rules.{rules}
 use Rattle.judge_capture.proofs.gather.Goals as goal
 
-pub returns-then-want-have : goal.returns-then-want-have
-returns-then-want-have g c = (grown_same _ _ _ (search rules) (search rules), search rules)
+pub returns-then-want-window : goal.returns-then-want-window
+returns-then-want-window g c = (grown_same _ _ _ (search rules) (search rules), search rules)
 
 pub returns : goal.returns
 returns g c = rw (← c.move_front-size.ensures.1) c.fill.ensures.gathered

@@ -4,18 +4,18 @@ use native.Mathlib.Omega.{arith}
 use Rattle.judge_capture.proofs.Taken.{capture_there}
 use Rattle.judge_capture.proofs.open_capture.Goals as goal
 
-pub overflow_add-behind : goal.overflow_add-behind
-overflow_add-behind g c =
-    let g = rw c.in-Window.is at c.fill-gathered.ensures.gathered in
+pub overflow_add-from : goal.overflow_add-from
+overflow_add-from g c =
+    let g = rw c.in-Enough.is at c.fill.ensures.gathered in
     omega (arith, g.0.ordered, g.0.within, g.1)
 
 pub slice_bounds-file_header-end : goal.slice_bounds-file_header-end
 slice_bounds-file_header-end g c =
-    let g = rw c.in-Window.is at c.fill-gathered.ensures.gathered in
+    let g = rw c.in-Enough.is at c.fill.ensures.gathered in
     omega (arith, g.0.ordered, g.0.within, g.1)
 
-pub returns-in-Ethernet : goal.returns-in-Ethernet
-returns-in-Ethernet g c =
-    let g = rw c.in-Window.is at c.fill-gathered.ensures.gathered in
-    let f = rw c.in-Window.is at c.fill-gathered.ensures.front in
-    capture_there g.0 (omega arith) (omega arith) f (omega arith) (sym c.file_header-header.ensures ∙ c.in-Ethernet.is)
+pub returns : goal.returns
+returns g c =
+    let g = rw c.in-Enough.is at c.fill.ensures.gathered in
+    let f = rw c.in-Enough.is at c.fill.ensures.front in
+    capture_there g.0 (omega arith) (omega arith) f (omega arith) (sym c.file_header.ensures ∙ c.in_ok-order.was)

@@ -4,14 +4,9 @@ use Rattle.program_files.proofs.Turns.{turn_ended, turn_more}
 use Rattle.program_files.proofs.read_open.Goals as goal
 
 pub returns-in-Ended-clause-seen : goal.returns-in-Ended-clause-seen
-returns-in-Ended-clause-seen g c = turn_ended c.read_more-progress.ensures.meant (search rules) (omega arith) _ c.in-Ended.is
+returns-in-Ended-clause-seen g c = turn_ended c.read_more.ensures.meant (search rules) (omega arith) _ c.in-Ended.is
 
 pub loop-have-smaller : goal.loop-have-smaller
 loop-have-smaller g c =
-    let t = turn_more c.read_more-progress.ensures.meant {room = length c.loop-have.room} refl c.in-More.is in
-    omega arith
-
-pub loop-have-preserved : goal.loop-have-preserved
-loop-have-preserved g c =
-    let t = turn_more c.read_more-progress.ensures.meant {room = length c.loop-have.room} refl c.in-More.is in
+    let t = turn_more c.read_more.ensures.meant {room = length c.loop-have.room} refl c.in-More.is in
     omega arith
