@@ -24,7 +24,14 @@ Contracts (src/**/*.rt)
    each name a definition of specs/, nor their equations every parameter. Each is the only public function of its name in its crate, and not visible to
    C.
  - Beside the functions' clauses and the imports nothing is `ghost`: who makes a type owes its ghost fields, and a model hides from clauses what it
-   does not show. No type holds a `&mut`, and no struct has a field of a name that a clause reads of a reference (`now`, `old`, `new`, ..).
+   does not show. A struct that no other crate can name may have ghost fields: what they say is what its functions require, and no public one takes
+   or gives it. They are plain facts, as clauses are.
+ - An `impl` of std's `Iterator` says what it gives in `next_gives` and how long it goes on in `remaining`, each by the name of a definition of specs/;
+   these stand for the clauses of `next`, which has none of its own. The former is in GIVING: it was read, and fixes what comes and what is left.
+ - No type holds a `&mut` but a room, a struct of nothing else than `&mut`s of slices of numbers, whose name no other struct has, and no type holds a
+   room. A public function takes a room by `&` or `&mut` alone, and gives none; of one taken by `&mut` a clause says that it has the same slices
+   afterwards, and an equation fixes what is behind all of them. No struct has a field of a name that a clause reads of a reference (`now`, `old`,
+   `new`, ..).
 Names (src/ and specs/)
  - The names of LIBRARY come from their library path alone, the names of LENT from nowhere; neither is given another meaning in specs/, nor is the sign
    of an operator. Contracts take nothing else from a library, definitions no other operator; specs/ has no operator of its own.
@@ -208,6 +215,12 @@ READING = [
     ("program_files", "load_book"),
 ]
 
+# crate and definition of what an iterator gives: for what is left before and after, it fixes what comes, or that nothing does, and what is left then.
+GIVING = [
+    ("dhcp_message", "GivesOption"),
+    ("book_card", "GivesRow"),
+]
+
 # The files of a function's proof: written whole, or what the prover asks for.
 PROOF_FILES = ("Proof", "Invariants", "Answers")
 
@@ -218,18 +231,18 @@ VECTOR_FILES = ("Vectors", "Computed", "Examples")
 LIBRARY = {
     name: path
     for path, names in {
+        "Rattle.std.specs.Option": "option_copied",
         "Rattle.std.specs.Prelude": """
             ◌≡◌ ◌↔◌ ◌≢◌ ◌⊎◌ Bool true false cond not ◌&&◌ ◌||◌ List [] ◌∷◌ ◌++◌ map
             ℕ zero suc ◌+◌ ◌-◌ ◌*◌ ◌/◌ ◌%◌ ◌^◌ ◌<◌ ◌≤◌ ℤ pos negsuc
-            length get_or slice_index take drop replicate set ltb leb eqb bit_and bit_or bit_xor
+            Option Some None unwrap_or ok_or option_map Result Ok Err
+            length get_or slice_index slice_get take drop replicate set ltb leb eqb bit_and bit_or bit_xor
             ◌==◌ IsTrue IsFalse IsSome IsNone IsOk IsErr IfSome IfNone IfOk IfErr OnSome OnOk OnErr""",
-        "Rattle.std.proofs.Math.Option": "Option none some",
-        "Rattle.std.proofs.Math.ListN": "get_elem?",
     }.items()
     for name in names.split()
 }
 # Of these the ones that a definition's left side may hold, as patterns.
-CONSTRUCTORS = set("true false none some [] ∷ zero suc pos negsuc".split())
+CONSTRUCTORS = set("true false None Some Ok Err [] ∷ zero suc pos negsuc".split())
 # The words that the operators of LIBRARY stand between their arguments as.
 SIGNS = {sign for name in LIBRARY if "◌" in name for sign in name.split("◌") if sign}
 # What every clause and definition has without an import.
@@ -264,6 +277,7 @@ class Lists:
     theorems: list = field(default_factory=lambda: THEOREMS)
     data: list = field(default_factory=lambda: DATA)
     reading: list = field(default_factory=lambda: READING)
+    giving: list = field(default_factory=lambda: GIVING)
 
 
 class Crate:
@@ -433,12 +447,36 @@ class Reading:
         return cls(said, lets, [pair for pair in sides if len(pair) == 2], others)
 
 
+def owing_types(crate):
+    """The types of a crate that have ghost fields, or hold one that has."""
+    owing = {fact.label.split(".")[0] for source in crate.src.values() for fact in source.inner_facts()}
+    said = [(name, set(re.findall(r"\w+", text))) for source in crate.src.values() for name, _, text in source.types_said]
+    while more := {name for name, words in said if owing & words} - owing:
+        owing |= more
+    return owing
+
+
+def words_in_types(function):
+    return {word for each in [*(parameter.type for parameter in function.parameters), function.result] for word in re.findall(r"\w+", each)}
+
+
 def contract_faults(crates, lists):
+    sources = [(crate.place(path, 1), source) for crate in crates.values() for path, source in crate.src.items()]
+    rooms = {name: fields for _, source in sources for name, fields in source.rooms.items()}
+    for name in sorted(rooms):
+        named = [place for place, source in sources if name in source.structs]
+        yield from (f"{place}: `{name}`, which lends lists together, is the name of another struct too" for place in named if named[1:])
     for crate in crates.values():
+        owing = owing_types(crate)
         for path, source in crate.src.items():
             imported = imports(crates, source)
             for line, fault in source_faults(source):
                 yield f"{crate.place(path, line)}: {fault}"
+            for name, line, text in source.types_said:
+                for room in sorted({*rooms} & set(re.findall(r"\w+", text)) - {name}):
+                    yield f"{crate.place(path, line)}: `{name}` holds a `{room}`: of what it lends no contract is asked"
+            for _, line, said in source.iterators:
+                yield from (f"{crate.place(path, line)}: {fault}" for fault in iterator_faults(said, imported, crate.name, lists))
             for function in source.functions:
                 place = f"{crate.place(path, function.line)}: fn {function.name}"
                 if function.foreign:
@@ -446,9 +484,12 @@ def contract_faults(crates, lists):
                 for clause in function.clauses:
                     for fault in clause_faults(clause, function):
                         yield f"{place}, line {clause.line}: {fault}"
-                if function.public and path != "src/main.rt":
+                by_members = function.name == "next" and not function.clauses and function.owner in {owner for owner, *_ in source.iterators}
+                if function.public and path != "src/main.rt" and not by_members:
+                    for each in sorted(owing & words_in_types(function)):
+                        yield f"{place} takes or gives a `{each}`, whose ghost fields its callers would owe"
                     reads = (crate.name, function.name) in lists.reading and not function.owner
-                    for fault in public_faults(function, imported, source.structs, crate.name in SERVING, reads):
+                    for fault in public_faults(function, imported, (source.structs, rooms), crate.name in SERVING, reads):
                         yield f"{place} {fault}"
     yield from reading_faults(crates, lists)
 
@@ -465,6 +506,9 @@ def source_faults(source):
     """What stands beside the functions and changes what a clause reads."""
     for line in source.ghosts():
         yield line, "`ghost` is no import and no clause of a function: what a clause reads of the type, or a caller owes, would stand elsewhere"
+    for fact in source.inner_facts():
+        for fault in inner_fact_faults(fact):
+            yield fact.line, f"the ghost field `{fact.label}`: {fault}"
     for name, line in source.lending_types():
         yield line, f"`{name}` holds a `&mut`: of what it lends no contract is asked"
     for name, fields in source.structs.items():
@@ -493,10 +537,35 @@ def clause_faults(clause, function):
         yield from said_clause_faults(Reading.of(clause, set()).words, function)
 
 
+def iterator_faults(said, imported, crate_name, lists):
+    """What an iterator gives and how long it goes on stands in two definitions of specs/, for the clauses of its `next`. The former is listed."""
+    if sorted(clause.label for clause in said) != ["next_gives", "remaining"]:
+        yield "an iterator says what it gives in `next_gives` and how long it goes on in `remaining`, and nothing else"
+    for clause in said:
+        if not imported.get(clause.text.strip()):
+            yield f"`{clause.label}` of an iterator is no definition of specs/: `{clause.text.strip()}`"
+        elif clause.label == "next_gives" and (crate_name, clause.text.strip()) not in lists.giving:
+            yield f"`{clause.text.strip()}` is not in the table GIVING"
+
+
+def inner_fact_faults(fact):
+    words = antt_tokens(fact.text)
+    if fact.commented:
+        yield "a clause holds a comment"
+    if {"⌜", "⌝"} & {*words}:
+        yield "the clause is no plain fact"
+    yield from empty_faults(without_let(words)[0])
+
+
 def said_clause_faults(words, function):
     lent = [parameter.name for parameter in function.parameters if parameter.lent_mutably]
     if not any(speaks_of(words, name) for name in ("", *lent)):
         yield "the clause speaks neither of the result nor of what is lent afterwards"
+    yield from empty_faults(words)
+
+
+def empty_faults(words):
+    """What is said is true of anything, or leaves something to be found, or names a thing by its path."""
     for part in trivial_parts(words):
         yield f"`{part}` is trivially true"
     if any(is_unit(part) or not is_proposition(conclusion_of(part)) for part in parts_of(words)):
@@ -526,7 +595,7 @@ def imports(crates, source):
     return found
 
 
-def public_faults(function, imported, structs, serving, reads):
+def public_faults(function, imported, types, serving, reads):
     cited = {name for name, source in imported.items() if source}
     names = [parameter.name for parameter in function.parameters]
     readings = [Reading.of(clause, {*imported, *names}) for clause in function.all("ensures") if not clause.starred]
@@ -537,7 +606,8 @@ def public_faults(function, imported, structs, serving, reads):
         for word in sorted({*BINDERS} & {*reading.words}):
             yield f"has an `ensures` that binds a name by `{word}`, which may hide the result or a parameter"
     yield from hiding_faults([*names, *function.generics], [name for reading in readings for name in reading.lets], imported)
-    yield from unfixed_faults(function, readings, imported, structs, reads)
+    yield from unfixed_faults(function, readings, imported, types, reads)
+    yield from room_faults(function, readings, imported, types[1])
 
 
 def head_faults(function, serving, reads):
@@ -561,7 +631,7 @@ def hiding_faults(names, lets, imported):
         yield f"hides the name `{name}`"
 
 
-def unfixed_faults(function, readings, imported, structs, reads):
+def unfixed_faults(function, readings, imported, types, reads):
     cited = {name for name, source in imported.items() if source}
     names = {parameter.name for parameter in function.parameters}
     given = [parameter for parameter in function.parameters if not parameter.lent_mutably]
@@ -572,7 +642,7 @@ def unfixed_faults(function, readings, imported, structs, reads):
         for left, right in reading.equations
         if settles(right, cited) and (not given or names & heads(right))
     ]
-    for name in unsettled(function, equations, imported, structs):
+    for name in unsettled(function, equations, imported, types):
         what = f"`{name}` afterwards" if name else "its result"
         if not reads:
             yield f"has no equation that fixes {what}"
@@ -605,16 +675,74 @@ def settles(right, cited):
     return bool(cited & heads(right)) and "result" not in heads(right) and not afterwards
 
 
-def unsettled(function, equations, imported, structs):
+def unsettled(function, equations, imported, types):
     """What no equation fixes: the result, which is "" here, or what is behind a `&mut` afterwards, by its name."""
+    structs, rooms = types
     observed = [canonical(left) for left, _ in equations]
     if function.result not in ("", "()") and not result_fixed(function.result, observed, structs):
         yield ""
     for parameter in function.parameters:
         if parameter.lent_mutably:
             after = [f"{parameter.name}.new"]
-            if not any(left == after or holds(left, after, imported) for left in observed):
+            fields = next((rooms[word] for word in re.findall(r"\w+", type_taken(parameter, function)) if word in rooms), None)
+            shows = (lambda left: shows_room(left, *after, fields, imported)) if fields else (lambda left: left == after or holds(left, after, imported))
+            if not any(shows(left) for left in observed):
                 yield parameter.name
+
+
+def type_taken(parameter, function):
+    """A parameter's type; of `self` with the type of the `impl`."""
+    return re.sub(r"\bself\b", function.owner, parameter.type) if parameter.name == "self" else parameter.type
+
+
+def room_faults(function, readings, imported, rooms):
+    """A room that a public function takes by `&` or `&mut` alone; of one taken by `&mut` it says that it has the same slices afterwards."""
+    for name in sorted({*rooms} & set(re.findall(r"\w+", function.result))):
+        yield f"gives a `{name}`: of what it lends no contract is asked"
+    for parameter in function.parameters:
+        kind = type_taken(parameter, function)
+        for name in sorted({*rooms} & set(re.findall(r"\w+", kind))):
+            taken = re.fullmatch(rf"&\s*('\w+\s*)?(mut\s+)?(\w+::)*{name}(<[^<>]*>)?", kind)
+            if not taken:
+                yield f"takes the `{name}` of `{parameter.name}` otherwise than by `&` or `&mut`"
+            elif taken.group(2):
+                ends = [f"{parameter.name}.old", f"{parameter.name}.new"]
+                others = [part for reading in readings for part in reading.others]
+                if not any(part[1:] == ends and keeps_room(part[0], rooms[name], imported) for part in others):
+                    yield f"says nowhere that `{parameter.name}` has the same slices afterwards"
+
+
+def shows_room(words, new, fields, imported):
+    """A function is applied to the room afterwards that builds a record of what is behind each of its slices and of its other arguments."""
+    source, given = imported.get(words[0]), arguments(words)
+    definition = plain_definition(source, words[0]) if source and [new] in given else None
+    if not definition or len(definition[0]) != len(given):
+        return False
+    names, body = definition
+    room = names[given.index([new])]
+    values = [part[2] for part in split_words(body[2:-1], (";",)) if len(part) == 3 and part[1] == "="]
+    return body[:2] == ["record", "{"] and sorted(values) == sorted([*(f"{room}.{each}.now" for each in fields), *(each for each in names if each != room)])
+
+
+def keeps_room(name, fields, imported):
+    """Its definition is that each slice of the second room is that of the first."""
+    source = imported.get(name)
+    definition = plain_definition(source, name) if source else None
+    if not definition or len(definition[0]) != 2:
+        return False
+    (first, second), body = definition
+    parts = [[canonical(side) for side in split_words(part, ("≡",))] for part in parts_of(body)]
+    return sorted(parts) == sorted([[f"{second}.{each}.ghost_name"], [f"{first}.{each}.ghost_name"]] for each in fields)
+
+
+def plain_definition(source, name):
+    """The arguments and the body of a definition of one clause `f x y .. = ..`."""
+    clauses = [each.words for each in source.declarations if each.sort == "clause" and each.name == name]
+    sides = split_words(clauses[0], ("=",)) if len(clauses) == 1 else []
+    if len(sides) < 2 or not all(re.fullmatch(r"\w+", word) for word in sides[0][1:]):
+        return None
+    place = clauses[0].index("=")
+    return clauses[0][1:place], clauses[0][place + 1 :]
 
 
 def result_fixed(kind, observed, structs):

@@ -250,9 +250,42 @@ class RattleSource:
         for found in re.finditer(rf"\b(?:{'|'.join(CLAUSES)}|by)\b(?!\s+use\b)[^;{{}}]*(?=\{{)", self.text):
             yield self.text[found.end() : bracket_end(self.text, found.end())]
 
+    def inner_structs(self):
+        """Where a struct begins that no other crate can name: its name is the second group."""
+        for struct in re.finditer(r"(?:\bpub\b\s*(\([^)]*\))?\s*)?\bstruct\s+(\w+)\s*(?:<[^{;]*>\s*)?(?=\{)", self.text):
+            if struct.group(1) or not struct.group().startswith("pub"):
+                yield struct
+
+    def inner_facts(self):
+        """The ghost fields of structs that no other crate can name. What such a field says each function that takes the struct requires."""
+        for struct in self.inner_structs():
+            fields = re.compile(r"\bghost\s+(\w+)\s*:\s*(?=\{)")
+            for found in fields.finditer(self.text, struct.end(), bracket_end(self.text, struct.end())):
+                end = bracket_end(self.text, found.end())
+                text = self.text[found.end() + 1 : end - 1]
+                commented = self.raw[found.start() : end] != self.text[found.start() : end] or re.search(r"--|\{-|\"", text) is not None
+                label = f"{struct.group(2)}.{found.group(1)}"
+                yield Clause("requires", label, text, line_of(self.text, found.start()), commented, False, found.start())
+
+    @cached_property
+    def iterators(self):
+        """Each `impl Iterator for` a type: the name that its folder of proofs has, its line, and its ghost members as clauses, by what stands in braces. None
+        where the source has another thing of that name."""
+        found = []
+        if re.search(r"(\btrait|\bas|::|[{,])\s*Iterator\b", self.text):
+            return found
+        for owner, _, _, start, end in self.impls():
+            if owner.endswith("Iterator") and re.search(r"\bimpl\b\s*(<[^>]*>)?\s*Iterator\s+for\b[^{;]*\{$", self.text[:start]):
+                members = re.compile(r"\bghost\s+(\w+)\s*=\s*\{([^{}]*)\}\s*;").finditer(self.text, start, end)
+                said = [Clause("ghost", each.group(1), each.group(2), line_of(self.text, each.start()), False, False, each.start()) for each in members]
+                found.append((owner, line_of(self.text, start), said))
+        return found
+
     def ghosts(self):
-        """The lines where `ghost` stands and begins neither a `ghost use` nor a function's clause."""
-        places = {clause.place for function in self.functions for clause in function.clauses}
+        """The lines where `ghost` stands and begins neither a `ghost use`, nor a function's clause, nor a field of a struct that no other crate names, nor
+        what an iterator says of itself."""
+        places = {clause.place for function in self.functions for clause in function.clauses} | {fact.place for fact in self.inner_facts()}
+        places |= {clause.place for _, _, said in self.iterators for clause in said}
         for found in re.finditer(r"\bghost\b(?!\s+use\b)", self.text):
             if found.start() not in places:
                 yield line_of(self.text, found.start())
@@ -264,20 +297,41 @@ class RattleSource:
                 yield named, line_of(self.text, found.start())
 
     def lending_types(self):
-        """The structs, enums and other names of types that hold a `&mut`, with their lines."""
+        """The structs, enums and other names of types that hold a `&mut`, with their lines, but for the rooms."""
         for found in re.finditer(r"\b(?:struct|enum|type)\s+(\w+)[^;{]*([;{])", self.text):
             end = bracket_end(self.text, found.end() - 1) if found.group(2) == "{" else found.end()
-            if re.search(LENT_MUTABLY, self.text[found.start() : end]):
+            if re.search(LENT_MUTABLY, self.text[found.start() : end]) and found.group(1) not in self.rooms:
                 yield found.group(1), line_of(self.text, found.start())
+
+    @cached_property
+    def types_said(self):
+        """The text of each struct, enum and other name of a type, from its name on."""
+        found = []
+        for each in re.finditer(r"\b(?:struct|enum|type)\s+(\w+)[^;{]*([;{])", self.text):
+            end = bracket_end(self.text, each.end() - 1) if each.group(2) == "{" else each.end()
+            found.append((each.group(1), line_of(self.text, each.start()), self.text[each.end(1) : end]))
+        return found
+
+    @cached_property
+    def typed_fields(self):
+        """The fields of each struct with their types, by its name."""
+        found = {}
+        for head in re.finditer(r"\bstruct\s+(\w+)\s*(?:<[^{;]*>\s*)?(?=\{)", self.text):
+            inside = self.text[head.end() + 1 : bracket_end(self.text, head.end()) - 1]
+            found[head.group(1)] = [self.parameter(part) for part in split_outside(inside, ",")]
+        return found
 
     @cached_property
     def structs(self):
         """The fields of each struct, by its name."""
-        found = {}
-        for head in re.finditer(r"\bstruct\s+(\w+)\s*(?:<[^{;]*>\s*)?(?=\{)", self.text):
-            inside = self.text[head.end() + 1 : bracket_end(self.text, head.end()) - 1]
-            found[head.group(1)] = [self.parameter(part).name.split()[-1] for part in split_outside(inside, ",")]
-        return found
+        return {name: [field.name.split()[-1] for field in fields] for name, fields in self.typed_fields.items()}
+
+    @cached_property
+    def rooms(self):
+        """The fields of each struct that lends lists together, by its name: every field is a `&mut` of a slice of numbers."""
+        slices = re.compile(r"&\s*'\w+\s*mut\s*\[[ui](8|16|32|64|size)\]")
+        lent = {name for name, fields in self.typed_fields.items() if fields and all(slices.fullmatch(field.type) for field in fields)}
+        return {name: self.structs[name] for name in lent}
 
 
 def names_of_generics(text, bound=""):

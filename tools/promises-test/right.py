@@ -9,6 +9,7 @@ ghost use Rattle.std.specs.Prelude.{◌≡◌, ◌+◌, ◌≤◌, [], ◌∷◌
 ghost use Rattle.meter.specs.Reading.{
     reading_of, most, size_in, store_after, part_of, start_of, Pair, pair_of, loaded_from, added_to, cleared, both_of
 };
+ghost use Rattle.meter.specs.Rooms.{room_of, SameRoom, filled_from, size_of_room};
 mod deeper;
 
 pub struct Meter {
@@ -92,6 +93,25 @@ pub fn both(store: &[u8], at: usize) -> Both
     Both { size: store.len(), read: reading(store, at) }
 }
 
+// Two stores that are lent together.
+pub struct Room<'r> {
+    pub front: &'r mut [u8],
+    pub back: &'r mut [u8],
+}
+
+pub fn reload(room: &mut Room, bytes: &[u8])
+    ensures same { SameRoom room.old room.new }
+    ensures stores { room_of room.new 1 ≡ filled_from (room_of room.old 0) bytes.now }
+{
+    load(room.front, room.back, bytes);
+}
+
+pub fn held(room: &Room<'_>) -> usize
+    ensures { result ≡ size_of_room (room_of room.now 0) }
+{
+    room.front.len()
+}
+
 fn half(x: u8) -> u8
     requires { x ≤ 100 }
     ensures { result + result ≤ x }
@@ -114,6 +134,7 @@ pub fn scale(x: u8) -> u8
 // Turns, which call one another and are proved together; and what others hand on.
 ghost use Rattle.std.specs.Prelude.{◌≡◌, ◌≤◌};
 ghost use Rattle.meter.specs.Reading.{scale_of, pair_of};
+ghost use Rattle.meter.specs.Rooms.{GivesTurn, turns_left};
 
 pub use crate::deeper::{scale::scale, turns::{LIMIT, turn}};
 
@@ -121,11 +142,29 @@ pub const LIMIT: u8 = 9;
 
 pub struct Wheel;
 
+// No other crate names it, so its fact asks nothing of one.
+struct Spun {
+    turns: u8,
+    ghost few: { turns ≤ 9 },
+}
+
 impl<'k, T: Copy> steps::Steps<u8, T> for &'k Wheel {
     fn step(self, x: u8) -> u8
         ensures { result ≡ scale_of (x + self) }
     {
         x
+    }
+}
+
+impl<'k> Iterator for Wheel<'k> {
+    type Item = u8;
+
+    ghost next_gives = { GivesTurn };
+
+    ghost remaining = { turns_left };
+
+    fn next(&mut self) -> Option<u8> {
+        None
     }
 }
 
@@ -215,7 +254,7 @@ use Rattle.std.specs.Prelude.{ℕ}
 unfoldable pub cut_of : ℕ → ℕ
 cut_of x = x
 """,
-    "crates/meter/specs/Lib.antt": "pub mod Reading\npub mod Laws\npub mod Examples\n",
+    "crates/meter/specs/Lib.antt": "pub mod Reading\npub mod Rooms\npub mod Laws\npub mod Examples\n",
     "crates/meter/specs/Reading.antt": """\
 -- What a meter reads.
 use Rattle.std.specs.Prelude.{ℕ, zero, suc, ◌+◌, Bool, cond, List, [], ◌∷◌, ◌++◌, length, get_or, drop, leb}
@@ -274,6 +313,35 @@ before n = elim n [ zero ↦ zero | suc m ↦ same m ]
 abbrev pub Used : List ℕ → Type 0
 Used [] = Unit {0}
 Used (x ∷ xs) = Used xs
+""",
+    "crates/meter/specs/Rooms.antt": """\
+-- Two stores that are lent together.
+use Rattle.std.specs.Prelude.{◌≡◌, ℕ, ◌+◌, ◌-◌, List, length, Option, Some}
+use Rattle.meter.specs.declared.Room.{Room}
+
+pub record Stores : Type 0 where
+  pub front : List ℕ
+  pub back : List ℕ
+  pub used : ℕ
+
+abbrev pub room_of : Room → ℕ → Stores
+room_of r used = record { front = r.front.now; back = r.back.now; used = used }
+
+abbrev pub SameRoom : Room → Room → Type 0
+SameRoom r s = (s.front.ghost_name ≡ r.front.ghost_name) × (s.back.ghost_name ≡ r.back.ghost_name)
+
+unfoldable pub filled_from : Stores → List ℕ → Stores
+filled_from s card = record { front = s.front; back = card; used = 1 }
+
+-- what an iterator gives
+abbrev pub GivesTurn : ℕ → Option ℕ → ℕ → Type 0
+GivesTurn s o t = o ≡ Some (s + t)
+
+abbrev pub turns_left : ℕ → ℕ
+turns_left s = 9 - s
+
+unfoldable pub size_of_room : Stores → ℕ
+size_of_room s = length s.front
 """,
     "crates/meter/specs/Laws.antt": """\
 -- What holds of readings.
@@ -397,4 +465,4 @@ THEOREMS = [
     ("meter", "Vectors", "example_1", "Example1"),
 ]
 
-LISTS = {"theorems": THEOREMS, "data": [("meter", "Pair")], "reading": [("reader", "fetch"), ("reader", "next")]}
+LISTS = {"theorems": THEOREMS, "data": [("meter", "Pair"), ("meter", "Stores")], "reading": [("reader", "fetch"), ("reader", "next")], "giving": [("meter", "GivesTurn")]}
