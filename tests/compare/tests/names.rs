@@ -52,7 +52,7 @@ fn in_camel_case(name: &str) -> String {
 
 /// The refusals of the Rattle code, which the others are held against: numbered from 1 on.
 fn refusals_in_rattle() -> Vec<Named> {
-    let named = refusals_in("crates/refusal/src/lib.rt", ["Refusal::", " => ", ","]);
+    let named = refusals_in("crates/refusal/src/lib.rt", ["", " = ", ","]);
     assert!(!named.is_empty());
     assert!(named
         .iter()
