@@ -44,6 +44,7 @@ fn loaded_line<R: Files>(
 }
 
 fn main(rt: HostRuntime) -> io::Result<()> {
+    // Arrays of a fixed size, since nothing is allocated; a `LentRoom` of them is given by no function (tools/promises.py).
     let mut ids = [0u32; ROWS_MOST];
     let mut lengths = [0u8; ROWS_MOST];
     let mut store = [0u8; ROWS_MOST * SLOT_SIZE];

@@ -14,7 +14,7 @@ ghost use Rattle.judge_capture.specs.Window.{in_window, Gathers, AtFront, FrameG
 ghost use Rattle.judge_capture.specs.Window.{RoomMade, RoomFor, WaitsWithin, OpensAs};
 ghost use Rattle.judge_capture.specs.Judging.{Judged, LinesWait, RecordingJudged};
 
-use capture::{FILE_HEADER_SIZE, FRAME_MOST, Order, RECORD_HEADER_SIZE};
+use capture::{FILE_HEADER_SIZE, FRAME_MOST, Order, RECORD_HEADER_SIZE, RecordHeader};
 use file_verdict::Progress;
 use key_book::{LentRoom, ROWS_MOST, SLOT_SIZE};
 use std::fs::File;
@@ -112,28 +112,27 @@ fn gather<F: Read>(file: &mut F, room: &mut [u8], window: Window, want: usize) -
     fill(file, room, size, want)
 }
 
-// Gathers a frame of so many bytes, which had `original`.
+// Gathers a frame, behind its header.
 fn gather_frame<F: Read>(
     file: &mut F,
     room: &mut [u8],
     window: Window,
-    captured: usize,
-    original: usize,
+    header: RecordHeader,
 ) -> Next
     requires ordered { window.from ≤ window.end }
     requires within { window.end ≤ length room.old }
-    requires captured_in_bounds { captured ≤ length room.old }
-    ensures { FrameGathers (in_window room.old window) room.new captured original result }
+    requires captured_in_bounds { header.captured ≤ length room.old }
+    ensures { FrameGathers (in_window room.old window) room.new header.captured header.original result }
 {
-    match gather(file, room, window, captured) {
+    match gather(file, room, window, header.captured) {
         Gathered::Failed => Next::Failed,
         Gathered::Ended(..) => Next::Cut,
         Gathered::Enough(Window { from, end: until }) => Next::Record {
             frame: Window {
                 from,
-                end: from + captured,
+                end: from + header.captured,
             },
-            original,
+            original: header.original,
             until,
         },
     }
@@ -156,13 +155,13 @@ fn next_record<F: Read>(file: &mut F, order: Order, room: &mut [u8], window: Win
                 return Next::Cut;
             };
             let behind = Window { from, end };
-            gather_frame(file, room, behind, header.captured, header.original)
+            gather_frame(file, room, behind, header)
         }
     }
 }
 
-// Adds a record's line behind those that wait, and returns where it ends. Room and end go from call to call as in verdict_line: the room is lent, and a struct
-// that lends holds slices alone (tools/promises.py).
+// Adds a record's line behind those that wait, and returns where it ends. Room and end go from call to call as in verdict_line: a struct of both
+// would be one that holds a `&mut`, and such a one holds nothing else (tools/promises.py).
 fn add_line(out: &mut [u8], size: usize, number: u64, line: Line) -> usize
     requires { size + numbered_most ≤ length out.old }
     ensures put_at { PutAt out.old size (numbered_line number line) out.new result }
@@ -359,6 +358,7 @@ fn judge_recording<R: Files + Print>(
 }
 
 fn main(rt: HostRuntime) -> io::Result<()> {
+    // Arrays of a fixed size, since nothing is allocated; a `LentRoom` of them is given by no function (tools/promises.py).
     let mut ids = [0u32; ROWS_MOST];
     let mut lengths = [0u8; ROWS_MOST];
     let mut store = [0u8; ROWS_MOST * SLOT_SIZE];

@@ -24,10 +24,10 @@ fn count_words(rt: &impl Env) -> usize {
     usize::MAX
 }
 
-// What the argument asks for. One that is longer than the room has size 0 there, and no id is empty: so the library is asked about every argument, and decides.
+// What the argument asks for. One that is missing, or longer than the room, is no id.
 fn asked(rt: &impl Env) -> Option<u32> {
     let mut room = [0u8; FILE_ROOM];
-    let size = rt.arg(1, &mut room).unwrap_or(0);
+    let size = rt.arg(1, &mut room).ok()?;
     known_verdict::read_argument(count_words(rt), size, &room)
 }
 
@@ -38,6 +38,7 @@ fn asked_line<R: Files>(rt: &R, asked: Option<u32>) -> Line
     let Some(id) = asked else {
         return Line::Unreadable;
     };
+    // Arrays of a fixed size, since nothing is allocated; a `LentRoom` of them is given by no function (tools/promises.py).
     let mut ids = [0u32; ROWS_MOST];
     let mut lengths = [0u8; ROWS_MOST];
     let mut store = [0u8; ROWS_MOST * SLOT_SIZE];

@@ -32,14 +32,10 @@ abbrev pub sealed_place : (was : ℕ) → Result ℕ Refusal → ℕ
 sealed_place was (Ok counter) = counter
 sealed_place was (Err r) = was
 
--- after reading a card: the rows; after writing or moving one: its size
-abbrev pub rows_place : (was : ℕ) → Result ℕ Refusal → ℕ
-rows_place was (Err r) = was
-rows_place was (Ok n) = n
-
-abbrev pub card_place : (was : ℕ) → Result ℕ Refusal → ℕ
-card_place was (Err r) = was
-card_place was (Ok n) = n
+-- after reading a card: the rows; after writing or moving one: its size; after a comparison: how many bytes the lines have
+abbrev pub number_place : (was : ℕ) → Result ℕ Refusal → ℕ
+number_place was (Err r) = was
+number_place was (Ok n) = n
 
 -- after a search by halving: the row, and how many ids were looked at, which is known with 10 too
 abbrev pub sought_place : (was : ℕ) → Sought → ℕ
@@ -60,8 +56,3 @@ kind_place was (Err r) = was
 abbrev pub judged_place : (was : ℕ) → Result Heeded Refusal → ℕ
 judged_place was (Ok a) = a.counter
 judged_place was (Err r) = was
-
--- after a comparison: how many bytes the lines have
-abbrev pub compared_place : (was : ℕ) → Result ℕ Refusal → ℕ
-compared_place was (Err r) = was
-compared_place was (Ok n) = n

@@ -27,8 +27,8 @@ ghost use Rattle.book_card.specs.Moving.{move_of, room_moved};
 ghost use Rattle.comparison.specs.Entry.{compare_of, room_compared};
 ghost use Rattle.card_pieces.specs.Pieces.{fresh};
 ghost use Rattle.card_pieces.specs.Numbers.{form_number, phase_number};
-ghost use Rattle.rimemagpie.specs.Places.{row_place, counter_place, offset_place, size_place, sealed_place, rows_place, card_place};
-ghost use Rattle.rimemagpie.specs.Places.{sought_place, looks_place, kind_place, judged_place, compared_place};
+ghost use Rattle.rimemagpie.specs.Places.{row_place, counter_place, offset_place, size_place, sealed_place, number_place};
+ghost use Rattle.rimemagpie.specs.Places.{sought_place, looks_place, kind_place, judged_place};
 ghost use Rattle.rimemagpie.specs.States.{state_of, fed_number, fed_spare, tail_place, kept_place, read_place, low_place, form_place, phase_place};
 ghost use Rattle.rimemagpie.specs.States.{ended_answer, ended_book};
 
@@ -37,6 +37,20 @@ use card_pieces::{Reader, TAIL_MOST};
 use key_book::{LentBook, LentRoom, Sought};
 use md5_digest::DIGEST_SIZE;
 use refusal::Refusal;
+
+// Writes what an answer gives, a number of rows or of bytes, to its place, and returns the answer's number.
+fn put_number(answer: Result<usize, Refusal>, place: &mut u64) -> u8
+    ensures number { result ≡ result_number answer }
+    ensures place { place.new ≡ number_place place.old answer }
+{
+    match answer {
+        Ok(given) => {
+            *place = given as u64;
+            0
+        }
+        Err(refusal) => refusal::number(refusal),
+    }
+}
 
 // The digest of a message.
 #[unsafe(no_mangle)]
@@ -188,7 +202,7 @@ pub extern "C" fn rimemagpie_card_read(
         book_of ids.new lengths.new store.new marks.new received.new sent.new
         (rows_given (read_of b card.now)) ≡ read_book b card.now }
     ensures rows { let b = book_of ids.old lengths.old store.old marks.old received.old sent.old 0 in
-        rows.new ≡ rows_place rows.old (read_of b card.now) }
+        rows.new ≡ number_place rows.old (read_of b card.now) }
 {
     let mut room = LentRoom {
         ids,
@@ -198,13 +212,7 @@ pub extern "C" fn rimemagpie_card_read(
         received,
         sent,
     };
-    match book_card::card_read(card, &mut room) {
-        Ok(read) => {
-            *rows = read as u64;
-            0
-        }
-        Err(refusal) => refusal::number(refusal),
-    }
+    put_number(book_card::card_read(card, &mut room), rows)
 }
 
 // Writes the card of a book, in the new form, to the front of a lent room. Later bytes of the room stay as they were.
@@ -225,7 +233,7 @@ pub extern "C" fn rimemagpie_card_write(
     ensures room { let b = book_of ids.now lengths.now store.now marks.now received.now sent.now rows in
         card.new ≡ room_after b card.old }
     ensures size { let b = book_of ids.now lengths.now store.now marks.now received.now sent.now rows in
-        size.new ≡ card_place size.old (write_of b (length card.old)) }
+        size.new ≡ number_place size.old (write_of b (length card.old)) }
 {
     let book = LentBook {
         ids,
@@ -236,28 +244,16 @@ pub extern "C" fn rimemagpie_card_write(
         sent,
         rows,
     };
-    match book_card::card_write(book, card) {
-        Ok(used) => {
-            *size = used as u64;
-            0
-        }
-        Err(refusal) => refusal::number(refusal),
-    }
+    put_number(book_card::card_write(book, card), size)
 }
 
 // Writes a card's rows as a card of a form to the front of a lent room. Later bytes of the room stay as they were. C has an entry for each form.
 fn move_card(wanted: CardForm, card: &[u8], room: &mut [u8], size: &mut u64) -> u8
     ensures number { result ≡ result_number (move_of wanted card.now (length room.old)) }
     ensures room { room.new ≡ room_moved wanted card.now room.old }
-    ensures size { size.new ≡ card_place size.old (move_of wanted card.now (length room.old)) }
+    ensures size { size.new ≡ number_place size.old (move_of wanted card.now (length room.old)) }
 {
-    match book_card::card_move(wanted, card, room) {
-        Ok(moved) => {
-            *size = moved as u64;
-            0
-        }
-        Err(refusal) => refusal::number(refusal),
-    }
+    put_number(book_card::card_move(wanted, card, room), size)
 }
 
 // The same in the old form.
@@ -265,7 +261,7 @@ fn move_card(wanted: CardForm, card: &[u8], room: &mut [u8], size: &mut u64) -> 
 pub extern "C" fn rimemagpie_card_to_old(card: &[u8], room: &mut [u8], size: &mut u64) -> u8
     ensures number { result ≡ result_number (move_of Old card.now (length room.old)) }
     ensures room { room.new ≡ room_moved Old card.now room.old }
-    ensures size { size.new ≡ card_place size.old (move_of Old card.now (length room.old)) }
+    ensures size { size.new ≡ number_place size.old (move_of Old card.now (length room.old)) }
 {
     move_card(CardForm::Old, card, room, size)
 }
@@ -275,7 +271,7 @@ pub extern "C" fn rimemagpie_card_to_old(card: &[u8], room: &mut [u8], size: &mu
 pub extern "C" fn rimemagpie_card_to_new(card: &[u8], room: &mut [u8], size: &mut u64) -> u8
     ensures number { result ≡ result_number (move_of New card.now (length room.old)) }
     ensures room { room.new ≡ room_moved New card.now room.old }
-    ensures size { size.new ≡ card_place size.old (move_of New card.now (length room.old)) }
+    ensures size { size.new ≡ number_place size.old (move_of New card.now (length room.old)) }
 {
     move_card(CardForm::New, card, room, size)
 }
@@ -514,7 +510,7 @@ pub extern "C" fn rimemagpie_card_finish(
         spare_received.now spare_sent.now 0 in
         let c = book_of ids.old lengths.old store.old marks.old received.old sent.old 0 in
         let st = state_of tail.now kept read low form phase in
-        rows.new ≡ rows_place rows.old (ended_answer b st c) }
+        rows.new ≡ number_place rows.old (ended_answer b st c) }
 {
     let Some(state) = state_of(tail, kept, read, low, form, phase) else {
         return refusal::number(Refusal::UnsoundBook);
@@ -536,13 +532,7 @@ pub extern "C" fn rimemagpie_card_finish(
         received,
         sent,
     };
-    match card_pieces::finish(state, spare, &mut room) {
-        Ok(given) => {
-            *rows = given as u64;
-            0
-        }
-        Err(refusal) => refusal::number(refusal),
-    }
+    put_number(card_pieces::finish(state, spare, &mut room), rows)
 }
 
 // Compares two messages, and writes what differs, line by line, to the front of a lent room. Later bytes of the room stay as they were.
@@ -555,13 +545,7 @@ pub extern "C" fn rimemagpie_compare(
 ) -> u8
     ensures number { result ≡ result_number (compare_of first.now second.now (length room.old)) }
     ensures room { room.new ≡ room_compared first.now second.now room.old }
-    ensures size { size.new ≡ compared_place size.old (compare_of first.now second.now (length room.old)) }
+    ensures size { size.new ≡ number_place size.old (compare_of first.now second.now (length room.old)) }
 {
-    match comparison::compare(first, second, room) {
-        Ok(lines) => {
-            *size = lines as u64;
-            0
-        }
-        Err(refusal) => refusal::number(refusal),
-    }
+    put_number(comparison::compare(first, second, room), size)
 }

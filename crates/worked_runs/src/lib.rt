@@ -9,7 +9,7 @@ ghost use Rattle.key_book.specs.Book.{book_of};
 ghost use Rattle.demands.specs.Demand3.{answers, ending};
 ghost use Rattle.worked_runs.specs.Calls.{alone, again, answer_number, buffer_of};
 
-// The numbers of three calls, as C has them.
+// The numbers of three calls: `check_again`'s clauses speak of these, and no `Result` of three kinds would be plainer.
 #[derive(Clone, Copy, Debug, PartialEq, Eq)]
 pub struct Numbers {
     pub first: u8,
