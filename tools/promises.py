@@ -9,7 +9,7 @@ Contracts (src/**/*.rt)
  - No function is foreign: the contract of a function without a body is assumed. `pub use` hands on a public function or constant of the crate's own, by
    its file and under its name.
  - Every `requires` and `ensures` is a plain fact, with no star, and holds no comment. An `ensures` speaks of the result or of what is lent afterwards
-   (`p.new`); no part of it is trivially true (`x ≡ x`, `A → A`, `(h : x < x) → ..`, `¬ (x < x)`, `Unit`, a type of numbers, ..) or left to be found (`_`, a
+   (`p.new`); no part of it is trivially true (`x ≡ x`, `A → A`, `(h : x < x) → ..`, `¬ (x < x)`, `Unit`, a type of values, ..) or left to be found (`_`, a
    tactic); it names nothing by a path and no operator by its whole name. This holds of private functions and of programs too.
  - A public function of a library (`pub`, of a trait, or visible to C; also in an `impl`, also in a deeper file) has no `requires`, but for those of
    SERVING, which proved code alone calls: none of these is visible to C. Equations fix its result (`result ≡ ..`, or each field of it; of a reference
@@ -253,9 +253,14 @@ OF_REFERENCES = ("now", "old", "new", "entry", "exit", "ref_ptr", "ghost_name")
 # The operators of LIBRARY that bind tighter than an equation.
 TIGHT = set("+ - * / % ^ ++ ∷ && || ==".split())
 RELATIONS = ("≡", "≤", "↔", "==")
-# Tests that are decided.
-TRUE = (["IsTrue", "true"], ["IsFalse", "false"], ["T", "true"])
-FALSE = (["IsTrue", "false"], ["IsFalse", "true"], ["T", "false"])
+# The types of values, of which a clause is no fact, and what is true of anything.
+VALUES = "ℕ ℤ Bool List Option Result Type".split()
+UNITS = ("Unit", "⊤")
+# The constructors of which a value has one or the other.
+OTHER = {"true": "false", "false": "true", "Some": "None", "None": "Some", "Ok": "Err", "Err": "Ok"}
+# Tests of a value, and what says something only where a value is built so, by the constructor that each asks for.
+TESTS = {"IsTrue": "true", "T": "true", "IsFalse": "false", "IsSome": "Some", "IsNone": "None", "IsOk": "Ok", "IsErr": "Err"}
+CASES = {"IfSome": "Some", "OnSome": "Some", "IfNone": "None", "IfOk": "Ok", "OnOk": "Ok", "IfErr": "Err", "OnErr": "Err"}
 # What binds looser than `×`: around it a product is no list of parts.
 LOOSER = ("→", "↔", "⊎")
 # The words of antt that give a name a meaning inside a term.
@@ -339,33 +344,52 @@ def premises_in(words):
 
 
 def always_holds(words):
-    """`x ≡ x`, `x ≤ x`, `0 ≤ x`, `A ↔ A`, `IsTrue true`, or that what never holds does not."""
+    """`x ≡ x`, `x ≤ x`, `0 ≤ x`, `A ↔ A`, `0 ≢ 1`, `IsOk (Ok x)`, `OnOk (Err x) A`, or that what never holds does not."""
     pairs = [split_words(words, (relation,)) for relation in RELATIONS]
-    at_most = split_words(words, ("≤",))
+    at_most, unequal = (split_words(words, (relation,)) for relation in ("≤", "≢"))
+    (asked, built), (case, of) = asked_and_built(words, TESTS), asked_and_built(words, CASES)
     return (
         any(len(sides) == 2 and sides[0] and same(*sides) for sides in pairs)
         or len(at_most) == 2 and canonical(at_most[0]) in (["0"], ["zero"])
-        or words in TRUE
+        or len(unequal) == 2 and apart(*unequal)
+        or asked == built
+        or OTHER.get(case) == of
         or words[:1] == ["¬"] and never_holds(bare(words[1:]))
     )
 
 
 def never_holds(words):
-    """`⊥`, or plainly as much: `x ≢ x`, `x < x`, `x < 0`, `0 ≡ 1`, `true ≡ false`, `¬ (x ≡ x)`."""
+    """`⊥`, or plainly as much: `x ≢ x`, `x < x`, `x < 0`, `0 ≡ 1`, `Some x ≡ None`, `IsOk (Err x)`, `¬ (x ≡ x)`."""
     unequal, less, equal = ([canonical(side) for side in split_words(words, (relation,))] for relation in ("≢", "<", "≡"))
+    asked, built = asked_and_built(words, TESTS)
     return (
         words == ["⊥"]
         or words[:2] == ["⊥", "{"]
-        or words in FALSE
+        or OTHER.get(asked) == built
         or words[:1] == ["¬"] and (always_holds(bare(words[1:])) or is_unit(words[1:]))
         or any(len(sides) == 2 and sides[0] == sides[1] for sides in (unequal, less))
         or len(less) == 2 and less[1] in (["0"], ["zero"])
-        or len(equal) == 2 and equal[0] != equal[1] and all(is_literal(side) for side in equal)
+        or len(equal) == 2 and apart(*equal)
     )
 
 
-def is_literal(words):
-    return len(words) == 1 and (words[0].isdigit() or words[0] in ("true", "false"))
+def asked_and_built(words, tests):
+    """The constructor that such a test asks for, None where it is none, and the one, or "", that builds what it is applied to."""
+    words = canonical(words)
+    return (tests[words[0]], built_by(arguments(words)[0])) if words[1:] and words[0] in tests else (None, "")
+
+
+def apart(one, other):
+    """Two numbers as they are written, or what two constructors build."""
+    built = (built_by(one), built_by(other))
+    return built[0] == OTHER.get(built[1]) or built[0] != built[1] and all(each.isdigit() for each in built)
+
+
+def built_by(words):
+    """The constructor that builds a value, or the number that it is; "" where it is neither, or an operator stands in it."""
+    words = canonical(words)
+    is_number = len(words) == 1 and words[0].isdigit()
+    return words[0] if is_number or words[:1] and words[0] in OTHER and not outside(words, SIGNS) else ""
 
 
 def same(one, other):
@@ -373,17 +397,29 @@ def same(one, other):
 
 
 def is_proposition(words):
-    """Not the type of a number or a list, which a function may take and give."""
-    return bare(words)[:1] not in (["ℕ"], ["ℤ"], ["Bool"], ["List"], ["Option"], ["Type"])
+    """Not a type of values, such as numbers, lists or answers."""
+    return first_of(words) not in VALUES
 
 
 def is_unit(words):
     """Whatever is given, there is nothing to show."""
-    return any(bare(part)[:1] in (["Unit"], ["⊤"]) for part in split_words(conclusion_of(words), ("⊎",)))
+    return any(first_of(part) in UNITS for part in split_words(conclusion_of(words), ("⊎",)))
+
+
+def says_nothing(words):
+    """A part of what is to show, or one of two that may be shown, is nothing, or is a type of values."""
+    parts = split_words(conclusion_of(words), ("×", "⊎"))
+    return any(says_nothing(part) for part in parts) if len(parts) > 1 else first_of(parts[0]) in (*UNITS, *VALUES)
+
+
+def first_of(words):
+    return "".join(canonical(words)[:1])
 
 
 def conclusion_of(words):
-    return bare(split_words(bare(words), ("→",))[-1])
+    """What stands behind the last arrow, also of those in brackets there."""
+    *premises, last = split_words(bare(words), ("→",))
+    return conclusion_of(last) if premises else bare(last)
 
 
 # ---- contracts
@@ -484,7 +520,7 @@ def contract_faults(crates, lists):
                 for clause in function.clauses:
                     for fault in clause_faults(clause, function):
                         yield f"{place}, line {clause.line}: {fault}"
-                by_members = function.name == "next" and not function.clauses and function.owner in {owner for owner, *_ in source.iterators}
+                by_members = function.name == "next" and not function.clauses and function.around in [around for around, *_ in source.iterators]
                 if function.public and path != "src/main.rt" and not by_members:
                     for each in sorted(owing & words_in_types(function)):
                         yield f"{place} takes or gives a `{each}`, whose ghost fields its callers would owe"
@@ -568,7 +604,7 @@ def empty_faults(words):
     """What is said is true of anything, or leaves something to be found, or names a thing by its path."""
     for part in trivial_parts(words):
         yield f"`{part}` is trivially true"
-    if any(is_unit(part) or not is_proposition(conclusion_of(part)) for part in parts_of(words)):
+    if any(says_nothing(part) for part in parts_of(words)):
         yield "the clause says nothing"
     if leaves_open(words):
         yield "`_`, or a tactic, stands for whatever makes the clause true"
@@ -684,15 +720,10 @@ def unsettled(function, equations, imported, types):
     for parameter in function.parameters:
         if parameter.lent_mutably:
             after = [f"{parameter.name}.new"]
-            fields = next((rooms[word] for word in re.findall(r"\w+", type_taken(parameter, function)) if word in rooms), None)
+            fields = next((rooms[word] for word in re.findall(r"\w+", parameter.type) if word in rooms), None)
             shows = (lambda left: shows_room(left, *after, fields, imported)) if fields else (lambda left: left == after or holds(left, after, imported))
             if not any(shows(left) for left in observed):
                 yield parameter.name
-
-
-def type_taken(parameter, function):
-    """A parameter's type; of `self` with the type of the `impl`."""
-    return re.sub(r"\bself\b", function.owner, parameter.type) if parameter.name == "self" else parameter.type
 
 
 def room_faults(function, readings, imported, rooms):
@@ -700,9 +731,8 @@ def room_faults(function, readings, imported, rooms):
     for name in sorted({*rooms} & set(re.findall(r"\w+", function.result))):
         yield f"gives a `{name}`: of what it lends no contract is asked"
     for parameter in function.parameters:
-        kind = type_taken(parameter, function)
-        for name in sorted({*rooms} & set(re.findall(r"\w+", kind))):
-            taken = re.fullmatch(rf"&\s*('\w+\s*)?(mut\s+)?(\w+::)*{name}(<[^<>]*>)?", kind)
+        for name in sorted({*rooms} & set(re.findall(r"\w+", parameter.type))):
+            taken = re.fullmatch(rf"&\s*('\w+\s*)?(mut\s+)?(\w+::)*{name}(<[^<>]*>)?", parameter.type)
             if not taken:
                 yield f"takes the `{name}` of `{parameter.name}` otherwise than by `&` or `&mut`"
             elif taken.group(2):

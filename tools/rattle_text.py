@@ -55,29 +55,41 @@ def block_end(text, at, open_mark, close_mark):
 
 
 def bracket_end(text, at):
-    """The place behind the bracket that closes the one at `at`."""
-    opening, closing, depth = text[at], CLOSING[text[at]], 0
-    for place in range(at, len(text)):
+    """The place behind the bracket that closes the one at `at`. What stands in another bracket, as in `[u8; 1 << 2]`, opens and closes no `<`."""
+    opening, closing, depth, place = text[at], CLOSING[text[at]], 0, at
+    while place < len(text):
         if text[place] == opening:
             depth += 1
         elif text[place] == closing and text[place - 1 : place + 1] != "->":
             depth -= 1
             if depth == 0:
                 return place + 1
+        elif opening == "<" and text[place] in CLOSING:
+            place = bracket_end(text, place) - 1
+        place += 1
     return len(text)
 
 
-def split_outside(text, mark):
-    """The parts of a text between marks that stand in no bracket."""
-    parts, depth, last = [""], 0, ""
-    for letter in text:
-        depth += (letter in "([{<") - (letter in ")]}>" and last + letter != "->")
-        last = letter
-        if letter == mark and depth == 0:
-            parts.append("")
-        else:
-            parts[-1] += letter
+def found_outside(text, marks, at=0):
+    """What matches from `at` on and begins in no bracket."""
+    wanted = re.compile(marks)
+    while at < len(text):
+        if found := wanted.match(text, at):
+            yield found
+        at = bracket_end(text, at) if text[at] in CLOSING else at + 1
+
+
+def split_outside(text, marks):
+    """The parts of a text between what matches and stands in no bracket."""
+    places = [found.span() for found in found_outside(text, marks)]
+    parts = [text[end:start] for (_, end), (start, _) in zip([(0, 0), *places], [*places, (len(text), 0)])]
     return [part.strip() for part in parts if part.strip()]
+
+
+def head_end(text, at, marks=r"[{;)\]}]"):
+    """Where an item's head ends that goes on at `at`: at a brace or a `;` in no bracket, or at what closes a bracket around it."""
+    found = next(found_outside(text, marks, at), None)
+    return found.start() if found else len(text)
 
 
 # ---- Rattle
@@ -106,12 +118,28 @@ class Parameter:
 
 
 @dataclass
+class Impl:
+    """An `impl` or a `trait`, which has functions in its braces."""
+
+    owner: str  # the name of its folder of proofs
+    of_trait: bool  # its functions are a trait's, which have no `pub` of their own
+    trait: str  # of an `impl` for a type, the trait, as it is written; else ""
+    type: str  # the type that an `impl` is of or for, as it is written; of a `trait` ""
+    generics: str  # its parameters, as they are written
+    start: int  # where its braces begin and end
+    end: int
+
+
+NOWHERE = Impl("", False, "", "", "", 0, 0)
+
+
+@dataclass
 class Function:
     name: str
     line: int
     public: bool  # pub to other crates, of a trait, or visible to C
     for_c: bool  # `extern`: visible to C
-    owner: str  # the `impl` or `trait` around it, by the name of its folder of proofs, or ""
+    around: Impl  # the `impl` or `trait` that holds it, or NOWHERE
     cycle: str  # the name that `#[cycle(name)]` gives those that call one another, or ""
     generics: list  # the names of its type and const parameters, and of its `impl`'s
     readers: list  # of these the types that can be read from, and what stands for one that has no name
@@ -119,6 +147,10 @@ class Function:
     result: str  # its type, or ""
     clauses: list
     foreign: bool  # declared without a body
+
+    @property
+    def owner(self):
+        return self.around.owner
 
     def all(self, kind):
         return [clause for clause in self.clauses if clause.kind == kind]
@@ -147,27 +179,34 @@ class RattleSource:
 
     def read_functions(self):
         tokens = list(RATTLE_TOKEN.finditer(self.text))
-        impls = list(self.impls())
         for number, token in enumerate(tokens):
             if token.group() == "fn" and number + 1 < len(tokens) and re.match(r"\w", tokens[number + 1].group()):
                 before = self.marks_before(tokens, number)
-                around = (each for *each, start, end in impls if start < token.start() < end)
-                owner, of_trait, generics = next(around, ("", False, ""))
+                around = next((each for each in reversed(self.impls) if each.start < token.start() < each.end), NOWHERE)
                 outside_too = "pub" in before and not {"crate", "super", "self"} & {*before}
-                public = of_trait or outside_too or "extern" in before
-                belongs = (owner, self.cycle_before(token.start()))
-                yield self.function(tokens[number + 1], (public, "extern" in before), belongs, generics)
+                public = around.of_trait or outside_too or "extern" in before
+                yield self.function(tokens[number + 1], (public, "extern" in before), self.cycle_before(token.start()), around)
 
+    @cached_property
     def impls(self):
-        """Each `impl` and `trait`: the name that its folder of proofs has, whether its functions are a trait's, which have no `pub` of their own, its
-        parameters, and where it begins and ends."""
-        for found in re.finditer(r"\b(impl|trait)\b\s*(?:<([^>]*)>)?\s*([^{;]*)\{", self.text):
-            kind, generics, front = found.groups()
-            without_bounds = re.split(r"\bwhere\b|(?<!:):(?!:)", front)[0]
-            trait, *of_type = re.split(r"\bfor\b", without_bounds, maxsplit=1)
-            own = names_of_generics(generics or "")
-            owner = "".join(words_of_type(part, own) for part in [*of_type, trait])
-            yield owner, bool(of_type) or kind == "trait", generics or "", found.end(), bracket_end(self.text, found.end() - 1)
+        return list(self.read_impls())
+
+    def read_impls(self):
+        for found in re.finditer(r"\b(?:impl|trait\s+(\w+))\b", self.text):
+            generics, at = self.generics_at(found.end())
+            start, name = head_end(self.text, at), found.group(1) or ""
+            if self.text[start : start + 1] == "{":
+                trait, of_type = ("", "") if name else trait_and_type(self.text[at:start])
+                owner = name or "".join(words_of_type(part, names_of_generics(generics)) for part in (of_type, trait))
+                yield Impl(owner, bool(name or trait), trait, of_type, generics, start, bracket_end(self.text, start))
+
+    def generics_at(self, at):
+        """The parameters between `<` and `>`, if some stand here, and the place behind them."""
+        if self.next_mark(at) != "<":
+            return "", at
+        begin = self.text.index("<", at)
+        end = bracket_end(self.text, begin)
+        return self.text[begin + 1 : end - 1], end
 
     def cycle_before(self, place):
         """The name in the `#[cycle(..)]` among the attributes of the item at a place."""
@@ -183,24 +222,21 @@ class RattleSource:
             words.append(tokens[number].group())
         return words
 
-    def function(self, name, seen, belongs, generics):
-        at = name.end()
-        if self.next_mark(at) == "<":
-            begin = self.text.index("<", at)
-            at = bracket_end(self.text, begin)
-            generics += "," + self.text[begin + 1 : at - 1]
+    def function(self, name, seen, cycle, around):
+        own, at = self.generics_at(name.end())
+        generics = f"{around.generics},{own}"
         start = self.text.index("(", at)
         at = bracket_end(self.text, start)
-        parameters = [self.parameter(part) for part in split_outside(self.text[start + 1 : at - 1], ",")]
+        parameters = [self.parameter(part, around.type) for part in split_outside(self.text[start + 1 : at - 1], ",")]
         result = ""
         if self.text[at:].lstrip().startswith("->"):
             begin = self.text.index("->", at) + 2
             at = self.result_end(begin)
-            result = self.text[begin:at].strip()
+            result = with_self(self.text[begin:at].strip(), around.type)
         clauses, at = self.clauses(self.behind_bounds(at))
         readers = ["impl Read", *names_of_generics(generics, r":(?!.*\bWrite\b).*\bRead\b")]
         rest = (names_of_generics(generics), readers, parameters, result, clauses, self.next_mark(at) != "{")
-        return Function(name.group(), line_of(self.text, name.start()), *seen, *belongs, *rest)
+        return Function(name.group(), line_of(self.text, name.start()), *seen, around, cycle, *rest)
 
     def behind_bounds(self, at):
         """Behind a `where` and its bounds, if one stands here."""
@@ -209,20 +245,15 @@ class RattleSource:
     def next_mark(self, at):
         return self.text[at:].lstrip()[:1]
 
-    def parameter(self, text):
+    def parameter(self, text, of_type=""):
+        """A parameter or a field. `of_type` is the type of the `impl` around it."""
         if re.search(r"\bself$", text):
-            return Parameter("self", text)
+            return Parameter("self", with_self(text, of_type))
         name, _, kind = text.partition(":")
-        return Parameter(name.replace("mut ", "").strip(), kind.strip())
+        return Parameter(name.replace("mut ", "").strip(), with_self(kind.strip(), of_type))
 
     def result_end(self, at):
-        depth = 0
-        for token in RATTLE_TOKEN.finditer(self.text, at):
-            word = token.group()
-            if depth == 0 and word in ("{", ";", "where", *CLAUSES):
-                return token.start()
-            depth += (word in "([") - (word in ")]")
-        return len(self.text)
+        return head_end(self.text, at, rf"[{{;]|\b(?:where|{'|'.join(CLAUSES)})\b")
 
     def clause_at(self, at):
         """A clause begins here: its word, perhaps a star, a label or a ghost value's name, and a brace."""
@@ -250,35 +281,41 @@ class RattleSource:
         for found in re.finditer(rf"\b(?:{'|'.join(CLAUSES)}|by)\b(?!\s+use\b)[^;{{}}]*(?=\{{)", self.text):
             yield self.text[found.end() : bracket_end(self.text, found.end())]
 
-    def inner_structs(self):
-        """Where a struct begins that no other crate can name: its name is the second group."""
-        for struct in re.finditer(r"(?:\bpub\b\s*(\([^)]*\))?\s*)?\bstruct\s+(\w+)\s*(?:<[^{;]*>\s*)?(?=\{)", self.text):
-            if struct.group(1) or not struct.group().startswith("pub"):
-                yield struct
+    def types(self):
+        """Each struct, enum and other name of a type: how it begins, with its `pub`, word and name, where its head ends, and where all of it does."""
+        for found in re.finditer(r"(\bpub\s+)?\b(struct|enum|type)\s+(\w+)", self.text):
+            at = head_end(self.text, found.end())
+            yield found, at, bracket_end(self.text, at) if self.text[at : at + 1] == "{" else at + 1
+
+    def braced_structs(self):
+        """The structs with fields in braces: how each begins, and where its braces do and end."""
+        yield from ((found, at, end) for found, at, end in self.types() if found.group(2) == "struct" and self.text[at : at + 1] == "{")
 
     def inner_facts(self):
         """The ghost fields of structs that no other crate can name. What such a field says each function that takes the struct requires."""
-        for struct in self.inner_structs():
-            fields = re.compile(r"\bghost\s+(\w+)\s*:\s*(?=\{)")
-            for found in fields.finditer(self.text, struct.end(), bracket_end(self.text, struct.end())):
-                end = bracket_end(self.text, found.end())
-                text = self.text[found.end() + 1 : end - 1]
-                commented = self.raw[found.start() : end] != self.text[found.start() : end] or re.search(r"--|\{-|\"", text) is not None
-                label = f"{struct.group(2)}.{found.group(1)}"
-                yield Clause("requires", label, text, line_of(self.text, found.start()), commented, False, found.start())
+        for struct, start, end in self.braced_structs():
+            if not struct.group(1):
+                yield from self.facts_in(struct.group(3), start, end)
+
+    def facts_in(self, name, start, end):
+        for found in re.compile(r"\bghost\s+(\w+)\s*:\s*(?=\{)").finditer(self.text, start, end):
+            behind = bracket_end(self.text, found.end())
+            text = self.text[found.end() + 1 : behind - 1]
+            commented = self.raw[found.start() : behind] != self.text[found.start() : behind] or re.search(r"--|\{-|\"", text) is not None
+            yield Clause("requires", f"{name}.{found.group(1)}", text, line_of(self.text, found.start()), commented, False, found.start())
 
     @cached_property
     def iterators(self):
-        """Each `impl Iterator for` a type: the name that its folder of proofs has, its line, and its ghost members as clauses, by what stands in braces. None
-        where the source has another thing of that name."""
+        """Each `impl Iterator for` a type, its line, and its ghost members as clauses, by what stands in braces. None where the source has another thing of
+        that name."""
         found = []
         if re.search(r"(\btrait|\bas|::|[{,])\s*Iterator\b", self.text):
             return found
-        for owner, _, _, start, end in self.impls():
-            if owner.endswith("Iterator") and re.search(r"\bimpl\b\s*(<[^>]*>)?\s*Iterator\s+for\b[^{;]*\{$", self.text[:start]):
-                members = re.compile(r"\bghost\s+(\w+)\s*=\s*\{([^{}]*)\}\s*;").finditer(self.text, start, end)
+        for around in self.impls:
+            if around.trait == "Iterator":
+                members = re.compile(r"\bghost\s+(\w+)\s*=\s*\{([^{}]*)\}\s*;").finditer(self.text, around.start, around.end)
                 said = [Clause("ghost", each.group(1), each.group(2), line_of(self.text, each.start()), False, False, each.start()) for each in members]
-                found.append((owner, line_of(self.text, start), said))
+                found.append((around, line_of(self.text, around.start), said))
         return found
 
     def ghosts(self):
@@ -298,28 +335,18 @@ class RattleSource:
 
     def lending_types(self):
         """The structs, enums and other names of types that hold a `&mut`, with their lines, but for the rooms."""
-        for found in re.finditer(r"\b(?:struct|enum|type)\s+(\w+)[^;{]*([;{])", self.text):
-            end = bracket_end(self.text, found.end() - 1) if found.group(2) == "{" else found.end()
-            if re.search(LENT_MUTABLY, self.text[found.start() : end]) and found.group(1) not in self.rooms:
-                yield found.group(1), line_of(self.text, found.start())
+        yield from ((name, line) for name, line, text in self.types_said if re.search(LENT_MUTABLY, text) and name not in self.rooms)
 
     @cached_property
     def types_said(self):
         """The text of each struct, enum and other name of a type, from its name on."""
-        found = []
-        for each in re.finditer(r"\b(?:struct|enum|type)\s+(\w+)[^;{]*([;{])", self.text):
-            end = bracket_end(self.text, each.end() - 1) if each.group(2) == "{" else each.end()
-            found.append((each.group(1), line_of(self.text, each.start()), self.text[each.end(1) : end]))
-        return found
+        return [(found.group(3), line_of(self.text, found.start(2)), self.text[found.end() : end]) for found, _, end in self.types()]
 
     @cached_property
     def typed_fields(self):
         """The fields of each struct with their types, by its name."""
-        found = {}
-        for head in re.finditer(r"\bstruct\s+(\w+)\s*(?:<[^{;]*>\s*)?(?=\{)", self.text):
-            inside = self.text[head.end() + 1 : bracket_end(self.text, head.end()) - 1]
-            found[head.group(1)] = [self.parameter(part) for part in split_outside(inside, ",")]
-        return found
+        inside = {found.group(3): self.text[at + 1 : end - 1] for found, at, end in self.braced_structs()}
+        return {name: [self.parameter(part) for part in split_outside(text, ",")] for name, text in inside.items()}
 
     @cached_property
     def structs(self):
@@ -340,10 +367,35 @@ def names_of_generics(text, bound=""):
     return [re.split(r"[:=]", part)[0].strip() for part in parts if re.search(bound, part, re.S)]
 
 
+def trait_and_type(text):
+    """The trait, or "", and the type of an `impl`, by what stands behind its parameters."""
+    front = [*split_outside(text, r"\bwhere\b"), ""][0]
+    parts = split_outside(front, r"\bfor\b")
+    return (parts[0], parts[1]) if len(parts) > 1 else ("", front)
+
+
+def with_self(kind, of_type):
+    """A type with the one that an `impl` is of in the place of `Self`, and of what a function has as `self`."""
+    return re.sub(r"\b(Self|self(?!\s*::))\b", lambda _: of_type, kind) if of_type else kind
+
+
 def words_of_type(text, own):
-    """A type's or a trait's words, as the folder of its proofs joins them: `RefU8` of `&u8`; without the parameters that are its own."""
-    words = re.findall(r"&|\w+", re.sub(r"'\w+|\w+::|\b(mut|dyn|const)\b", "", text))
+    """A type's or a trait's words, as the folder of its proofs joins them: `RefU8` of `&u8`, `RefMutSliceU8` of `&mut [u8]`, `ArrayU84` of `[u8; 4]`;
+    without the parameters that are its own."""
+    named = re.sub(r"[\[(]", lambda found: f" {word_of_bracket(text, found.start())} ", text)
+    words = re.findall(r"&|\w+", re.sub(r"'\w+|\w+::|\bconst\b", "", named))
     return "".join("Ref" if word == "&" else word[0].upper() + word[1:] for word in words if word not in own)
+
+
+def word_of_bracket(text, at):
+    """The word of the array, slice or tuple that begins at `at`; none of a bracket around one type, or around what a function takes."""
+    inside = text[at + 1 : bracket_end(text, at) - 1]
+    if text[at] == "[":
+        return "Array" if any(found_outside(inside, ";")) else "Slice"
+    if not inside.strip():
+        return "Unit"
+    is_tuple = any(found_outside(inside, ",")) and not re.search(r"\w$", text[:at])
+    return f"Tuple{len(split_outside(inside, ','))}" if is_tuple else ""
 
 
 def paths_in(text):

@@ -195,6 +195,102 @@ fn more(x: u8) -> u8
     x
 }
 """,
+    "crates/meter/src/deeper/arrays.rt": """\
+// Arrays, also in the heads of types and of what holds functions.
+ghost use Rattle.std.specs.Prelude.{◌≡◌, ◌≤◌};
+ghost use Rattle.meter.specs.Arrays.{pace_of, four_of, laid_by, turned_by, held_of};
+ghost use Rattle.meter.specs.Rooms.{GivesTurn, turns_left};
+
+pub struct Pace {
+    pub steps: [u8; 4],
+}
+
+pub struct Laid<T: Into<[u8; 2]>>
+where
+    [T; 3]: Copy,
+{
+    pub parts: [T; 1 << 2],
+    pub size: u8,
+}
+
+pub struct Marked([u8; 4], u8);
+
+pub type Timed = ([u8; 4], u8);
+
+// No other crate names it, so its fact asks nothing of one.
+struct Kept<T: Into<[u8; 2]>> {
+    size: T,
+    ghost few: { size < 9 },
+    last: u8,
+}
+
+impl From<[u8; 4]> for Pace {
+    fn from(x: [u8; 4]) -> Pace
+        ensures { result ≡ pace_of x }
+    {
+        Pace { steps: x }
+    }
+}
+
+impl From<Pace> for [u8; 4] {
+    fn from(p: Pace) -> [u8; 4]
+        ensures { result ≡ four_of p }
+    {
+        p.steps
+    }
+}
+
+impl<'k, T: Into<[u8; 2]>, const N: usize> steps::Lays<(&'k [u8], [[T; N]; 2])> for &mut [u8; 4]
+where
+    [T; N]: Copy,
+{
+    fn lay(self, x: (&'k [u8], [[T; N]; 2]))
+        ensures { self.new ≡ laid_by self.old x }
+    {
+        put(self, x);
+    }
+}
+
+pub trait Lays<T: Into<[u8; 2]>>: Into<[u8; 2]> {
+    fn double(x: T) -> [u8; 2]
+        ensures { result ≡ four_of x }
+    {
+        x.into()
+    }
+}
+
+impl<F: Fn(u8) -> u8, U: Copy> Iterator for Laid<[[F; 2]; 4]> {
+    type Item = [u8; 4];
+
+    ghost next_gives = { GivesTurn };
+
+    ghost remaining = { turns_left };
+
+    fn next(&mut self) -> Option<[u8; 4]> {
+        None
+    }
+}
+
+pub fn turned<T: Into<[u8; 1 << 2]>, U>(x: [T; 1 << 2], by: U) -> [u8; 4]
+    ensures { result ≡ turned_by x by }
+{
+    x
+}
+
+fn each(f: impl Copy + for<'a> Fn(&'a [u8; 4]) -> u8) -> u8 {
+    fn least(x: u8) -> u8 {
+        x
+    }
+    least(f(&[0; 4]))
+}
+
+fn held(x: u8) -> Held<{ 2 + 2 }>
+    requires { x ≤ 9 }
+    ensures { result ≡ held_of x }
+{
+    Held(x)
+}
+""",
     "crates/reader/src/lib.rt": """\
 // What is read no contract can say: one function, which is listed.
 ghost use Rattle.std.specs.Prelude.{◌≡◌, ◌≤◌, length};
@@ -254,7 +350,7 @@ use Rattle.std.specs.Prelude.{ℕ}
 unfoldable pub cut_of : ℕ → ℕ
 cut_of x = x
 """,
-    "crates/meter/specs/Lib.antt": "pub mod Reading\npub mod Rooms\npub mod Laws\npub mod Examples\n",
+    "crates/meter/specs/Lib.antt": "pub mod Reading\npub mod Arrays\npub mod Rooms\npub mod Laws\npub mod Examples\n",
     "crates/meter/specs/Reading.antt": """\
 -- What a meter reads.
 use Rattle.std.specs.Prelude.{ℕ, zero, suc, ◌+◌, Bool, cond, List, [], ◌∷◌, ◌++◌, length, get_or, drop, leb}
@@ -313,6 +409,29 @@ before n = elim n [ zero ↦ zero | suc m ↦ same m ]
 abbrev pub Used : List ℕ → Type 0
 Used [] = Unit {0}
 Used (x ∷ xs) = Used xs
+""",
+    "crates/meter/specs/Arrays.antt": """\
+-- Arrays are lists.
+use Rattle.std.specs.Prelude.{◌≡◌, ◌≢◌, ℕ, Bool, true, false, ◌&&◌, List, ◌++◌, drop, take, Option, Some, None, OnSome, IsSome}
+
+unfoldable pub pace_of : List ℕ → List ℕ
+pace_of x = x
+
+unfoldable pub four_of : List ℕ → List ℕ
+four_of p = p
+
+unfoldable pub laid_by : List ℕ → List (List ℕ) → List ℕ
+laid_by old x = old
+
+unfoldable pub turned_by : List ℕ → ℕ → List ℕ
+turned_by x by = drop by x ++ take by x
+
+unfoldable pub held_of : ℕ → ℕ
+held_of x = x
+
+-- what a number that may be missing is told by
+abbrev pub Told : Option ℕ → Option ℕ → Bool → Type 0
+Told o p b = OnSome o (IsSome p × (true && b ≡ false → p ≢ None) × (Some 4 ≢ o))
 """,
     "crates/meter/specs/Rooms.antt": """\
 -- Two stores that are lent together.
@@ -424,6 +543,11 @@ decreases-scale l = l.x
     "crates/meter/proofs/deeper/turns/+turns/Answers.antt": "-- The turns meet their contracts.\nreturns c = search rules\n",
     "crates/meter/proofs/deeper/turns/WheelTurns/back/Answers.antt": "-- `Wheel` turns back as it must.\nreturns c = search rules\n",
     "crates/meter/proofs/deeper/turns/RefWheelStepsU8/step/Answers.antt": "-- A step is as it must be.\nreturns c = search rules\n",
+    "crates/meter/proofs/deeper/arrays/PaceFromArrayU84/from/Answers.antt": "-- A pace is of its array.\nreturns c = search rules\n",
+    "crates/meter/proofs/deeper/arrays/ArrayU84FromPace/from/Answers.antt": "-- An array is of its pace.\nreturns c = search rules\n",
+    "crates/meter/proofs/deeper/arrays/RefMutArrayU84LaysTuple2RefSliceU8ArrayArray2/lay/Answers.antt": "-- Laid as it must be.\nreturns c = search rules\n",
+    "crates/meter/proofs/deeper/arrays/Lays/double/Answers.antt": "-- Twice, as it must be.\nreturns c = search rules\n",
+    "crates/meter/proofs/deeper/arrays/LaidArrayArray24Iterator/next/Answers.antt": "-- It gives what it must.\nreturns c = search rules\n",
     "crates/meter/must-fail/most_of_65.edit": """\
 # one more than fits
 file: specs/Reading.antt

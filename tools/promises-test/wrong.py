@@ -7,6 +7,7 @@ from rattle_text import antt_tokens as tokens
 LIB = "crates/meter/src/lib.rt"
 SCALE = "crates/meter/src/deeper/scale.rt"
 TURNS = "crates/meter/src/deeper/turns.rt"
+ARRAYS = "crates/meter/src/deeper/arrays.rt"
 MAIN = "crates/show/src/main.rt"
 FETCH = "crates/reader/src/lib.rt"
 NEXT = "crates/reader/src/next.rt"
@@ -17,6 +18,7 @@ SAYS = "crates/meter/proofs/Says.antt"
 VECTORS = "crates/meter/proofs/Vectors.antt"
 EDIT = "crates/meter/must-fail/most_of_65.edit"
 TWICE = "crates/meter/must-fail/scaled_twice.edit"
+HELD = "pub fn held(room: &Room<'_>) -> usize\n    ensures { result ≡ size_of_room (room_of room.now 0) }\n{\n    room.front.len()\n}\n"
 PRELUDE = "use Rattle.std.specs.Prelude.{◌≡◌, ◌↔◌, ℕ, ◌≤◌, ◌<◌, List, length}"
 
 
@@ -976,6 +978,317 @@ CONTRACTS = [
     ),
 ]
 
+# Heads and types with an array in them, whose `;` ends none; and other brackets in brackets.
+IN_ARRAYS = [
+    Source(
+        "a function of an `impl` from an array that has no contract",
+        ARRAYS,
+        "        ensures { result ≡ pace_of x }\n",
+        "",
+        "fn from has no `ensures`",
+    ),
+    Source(
+        "a function of an `impl` from an array that asks something of its caller",
+        ARRAYS,
+        "        ensures { result ≡ pace_of x }\n",
+        "        requires { length x ≤ 4 }\n        ensures { result ≡ pace_of x }\n",
+        "fn from has a `requires`",
+    ),
+    Source(
+        "a function of an `impl` from an array that says what is no equation",
+        ARRAYS,
+        "result ≡ pace_of x",
+        "result ≤ pace_of x",
+        "fn from has no equation that fixes its result",
+    ),
+    Source(
+        "a function of an `impl` for an array that says what is no equation",
+        ARRAYS,
+        "result ≡ four_of p",
+        "result ≤ four_of p",
+        "fn from has no equation that fixes its result",
+    ),
+    Source(
+        "a function of an `impl` for an array that says nothing of its parameter",
+        ARRAYS,
+        "fn from(p: Pace)",
+        "fn from(p: Pace, q: u8)",
+        "fn from says nothing of its parameter `q`",
+    ),
+    Source(
+        "a function of an `impl` with arrays of arrays that has no contract",
+        ARRAYS,
+        "        ensures { self.new ≡ laid_by self.old x }\n",
+        "",
+        "fn lay has no `ensures`",
+    ),
+    Source(
+        "what an `impl` for a `&mut` has as `self`, afterwards",
+        ARRAYS,
+        "self.new ≡ laid_by self.old x",
+        "length self.new ≡ laid_by self.old x",
+        "fn lay has no equation that fixes `self` afterwards",
+    ),
+    Source(
+        "what an `impl` for a `&mut` has as `Self`, afterwards",
+        ARRAYS,
+        "(self, x: (&'k [u8], [[T; N]; 2]))\n        ensures { self.new ≡ laid_by self.old x }",
+        "(s: Self, x: (&'k [u8], [[T; N]; 2]))\n        ensures { length s.new ≡ laid_by s.old x }",
+        "fn lay has no equation that fixes `s` afterwards",
+    ),
+    Source(
+        "a `Self` that is a reference, without its place",
+        ARRAYS,
+        "(self, x: (&'k [u8], [[T; N]; 2]))\n        ensures { self.new ≡ laid_by self.old x }",
+        "(self, x: (&'k [u8], [[T; N]; 2])) -> Self\n        ensures { self.new ≡ laid_by self.old x }\n        ensures { result ≡ laid_by self.old x }",
+        "fn lay has no equation that fixes its result",
+    ),
+    Source(
+        "a parameter of an `impl` behind one with an array, for the definition",
+        ARRAYS,
+        "T: Into<[u8; 2]>, const N: usize>",
+        "T: Into<[u8; 2]>, laid_by: Copy, const N: usize>",
+        "fn lay hides the name `laid_by`",
+    ),
+    Source(
+        "a parameter of an `impl` behind one with parameters of its own, for the definition",
+        LIB,
+        "impl Meter {",
+        "impl<T: Into<Option<u8>>, added_to: Copy> Meter {",
+        "fn add hides the name `added_to`",
+    ),
+    Source(
+        "a function of an `impl` of a trait, behind parameters with parameters of their own",
+        LIB,
+        "impl Meter {",
+        "impl<T: Into<u8>, U: Copy> From<(T, U)> for Meter {\n    fn from(x: (T, U)) -> Meter {\n        0\n    }\n}\n\nimpl Meter {",
+        "fn from has no `ensures`",
+    ),
+    Source(
+        "a function of an `impl` of a trait of functions that hold for all lifetimes",
+        LIB,
+        "impl Meter {",
+        "impl From<for<'a> fn(x: &'a [u8; 4]) -> u8> for Meter {\n    fn from(x: fn(&[u8; 4]) -> u8) -> Meter {\n        0\n    }\n}\n\nimpl Meter {",
+        "fn from has no `ensures`",
+    ),
+    Source(
+        "a function of an `impl` for an array as long as a sum",
+        LIB,
+        "impl Meter {",
+        "impl Reads for [u8; { 2 + 2 }] {\n    fn read(self) -> u8 {\n        0\n    }\n}\n\nimpl Meter {",
+        "fn read has no `ensures`",
+    ),
+    Source(
+        "a function of an `impl` whose bounds hold an array",
+        LIB,
+        "impl Meter {",
+        "impl Reads for Meter\nwhere\n    [u8; 4]: Copy,\n{\n    fn read(self) -> u8 {\n        0\n    }\n}\n\nimpl Meter {",
+        "fn read has no `ensures`",
+    ),
+    Source(
+        "a function of a trait's `impl` in a method",
+        LIB,
+        "        Meter { total: sum(self.total, x) }",
+        "        impl Reads for [u8; 4] {\n            fn read(self) -> u8 {\n                0\n            }\n        }\n"
+        "        Meter { total: sum(self.total, x) }",
+        "fn read has no `ensures`",
+    ),
+    Source(
+        "a function that a trait gives, with an array among its parameters' bounds",
+        ARRAYS,
+        "        ensures { result ≡ four_of x }\n",
+        "",
+        "fn double has no `ensures`",
+    ),
+    Source(
+        "a parameter of a trait for the definition",
+        ARRAYS,
+        "pub trait Lays<T: Into<[u8; 2]>>",
+        "pub trait Lays<T: Into<[u8; 2]>, four_of>",
+        "fn double hides the name `four_of`",
+    ),
+    Source(
+        "an iterator of arrays that gives what is not listed",
+        ARRAYS,
+        "ghost next_gives = { GivesTurn }",
+        "ghost next_gives = { turns_left }",
+        "`turns_left` is not in the table GIVING",
+    ),
+    Source(
+        "a function of an iterator of arrays that is not its `next`",
+        ARRAYS,
+        "    fn next(&mut self) -> Option<[u8; 4]> {",
+        "    fn last(&mut self) -> Option<[u8; 4]> {",
+        "fn last has no `ensures`",
+    ),
+    Source(
+        "a function `next` of a type that has the name of an iterator's folder",
+        TURNS,
+        "impl Turns for Wheel {",
+        "impl WheelIterator {\n    pub fn next(self) -> u8 {\n        0\n    }\n}\n\nimpl Turns for Wheel {",
+        "fn next has no `ensures`",
+    ),
+    Source(
+        "a parameter behind an array as long as a shift gives",
+        ARRAYS,
+        "result ≡ turned_by x by",
+        "result ≡ turned_by x 0",
+        "fn turned says nothing of its parameter `by`",
+    ),
+    Source(
+        "a trivial clause behind a type with a number in braces",
+        ARRAYS,
+        "result ≡ held_of x",
+        "result ≡ result",
+        "`result ≡ result` is trivially true",
+    ),
+    Source(
+        "a type that lends behind an array",
+        LIB,
+        "impl Meter {",
+        "pub struct Lent<'k>([u8; 4], &'k mut u64);\n\nimpl Meter {",
+        "`Lent` holds a `&mut`",
+    ),
+    Source(
+        "another name for what lends behind an array",
+        LIB,
+        "impl Meter {",
+        "pub type Lent<'k> = ([u8; 4], &'k mut u64);\n\nimpl Meter {",
+        "`Lent` holds a `&mut`",
+    ),
+    Source(
+        "a type that lends, with an array among its parameters' bounds",
+        LIB,
+        "impl Meter {",
+        "pub enum Lent<'k, T: Into<[u8; 4]>> {\n    Size(&'k mut u64),\n    More(T),\n}\n\nimpl Meter {",
+        "`Lent` holds a `&mut`",
+    ),
+    Source(
+        "a type that lends, with an array in a bound behind it",
+        LIB,
+        "impl Meter {",
+        "pub struct Lent<'k, T>\nwhere\n    [T; 4]: Copy,\n{\n    pub size: &'k mut T,\n}\n\nimpl Meter {",
+        "`Lent` holds a `&mut`",
+    ),
+    Source(
+        "a type that holds a room behind an array",
+        LIB,
+        "// Two stores that are lent together.\n",
+        "pub struct Wrapped<'r>([u8; 4], Room<'r>);\n\n// Two stores that are lent together.\n",
+        "`Wrapped` holds a `Room`",
+    ),
+    Source(
+        "the name of a room given to a type with an array among its parameters' bounds",
+        SCALE,
+        "pub fn scale(",
+        "pub struct Room<T: Into<[u8; 4]>> {\n    pub size: T,\n}\n\npub fn scale(",
+        "`Room`, which lends lists together, is the name of another struct too",
+    ),
+    Source(
+        "a room that is `self` by value, of a trait",
+        LIB,
+        HELD,
+        "impl Reads for Room<'_> {\n    fn held(self) -> usize\n        ensures { result ≡ size_of_room (room_of self.entry 0) }\n    {\n        0\n    }\n}\n",
+        "fn held takes the `Room` of `self` otherwise than by `&` or `&mut`",
+    ),
+    Source(
+        "a room that is `Self`, by value",
+        LIB,
+        HELD,
+        "impl Room<'_> {\n    pub fn held(r: Self) -> usize\n        ensures { result ≡ size_of_room (room_of r.entry 0) }\n    {\n        0\n    }\n}\n",
+        "fn held takes the `Room` of `r` otherwise than by `&` or `&mut`",
+    ),
+    Source(
+        "a room that is given as `Self`",
+        LIB,
+        HELD,
+        "impl Room<'_> {\n    pub fn held(&self) -> Self\n        ensures { result ≡ size_of_room (room_of self.now 0) }\n    {\n        0\n    }\n}\n",
+        "fn held gives a `Room`",
+    ),
+    Source(
+        "a public type that holds an inner one with a fact behind an array, taken by a public function",
+        TURNS,
+        "// No other crate names it, so its fact asks nothing of one.\n",
+        "pub struct Holder([u8; 4], Spun);\n\npub fn hold(holder: Holder) -> u8\n    ensures { result ≡ scale_of holder }\n{\n    0\n}\n\n"
+        "// No other crate names it, so its fact asks nothing of one.\n",
+        "fn hold takes or gives a `Holder`, whose ghost fields its callers would owe",
+    ),
+    Source(
+        "a public function of an inner type with a fact",
+        TURNS,
+        "impl Turns for Wheel {",
+        "impl Spun {\n    pub fn spin(self) -> u8\n        ensures { result ≡ scale_of self }\n    {\n        0\n    }\n}\n\nimpl Turns for Wheel {",
+        "fn spin takes or gives a `Spun`, whose ghost fields its callers would owe",
+    ),
+    Source(
+        "an inner type's fact that is none, with an array among the type's parameters' bounds",
+        ARRAYS,
+        "ghost few: { size < 9 }",
+        "ghost few: { size ≡ size }",
+        "the ghost field `Kept.few`: `size ≡ size` is trivially true",
+    ),
+    Source(
+        "a field that reads like what is lent, behind a fact with a sign in it",
+        ARRAYS,
+        "    last: u8,\n",
+        "    new: u8,\n",
+        "struct Kept has a field `new`",
+    ),
+    Source(
+        "a field that reads like what is lent, in a type with an array in its bounds",
+        ARRAYS,
+        "    pub parts: [T; 1 << 2],\n    pub size: u8,\n",
+        "    pub parts: [T; 1 << 2],\n    pub new: u8,\n",
+        "struct Laid has a field `new`",
+    ),
+    Source(
+        "a proof of an array's `impl`, in no folder of that",
+        "crates/meter/proofs/deeper/arrays/from/Answers.antt",
+        None,
+        "-- Nothing.\n",
+        "belongs to no function",
+    ),
+]
+
+# A part that is a type of values, whichever way, or what a constructor decides.
+DECIDED = [
+    *(
+        Source(f"a part `{part}`", SCALE, "result ≡ scale_of x", f"(result ≡ scale_of x) × ({part})", "fn scale, line 6: the clause says nothing")
+        for part in (
+            *("x ≤ 9 → Result Meter Meter", "x ≤ 9 → (Result) Meter Meter", "x ≤ 9 → (x ≤ 8 → Result Meter Meter)", "(x ≤ 9) ⊎ Result Meter Meter"),
+            *("x ≤ 9 → (x ≤ 8) × Option Meter", "x ≤ 9 → (x ≤ 8 → Unit)", "x ≤ 9 → (Unit) {0}", "(x ≤ 9) ⊎ (x ≤ 8 → ℕ)"),
+        )
+    ),
+    Source(
+        "a private clause that is a type of answers",
+        LIB,
+        "result + result ≤ x",
+        "result ≤ 9 → Result Meter Meter",
+        "fn half, line 113: the clause says nothing",
+    ),
+    Source(
+        "an inner type's fact that is a type of answers",
+        TURNS,
+        "ghost few: { turns ≤ 9 }",
+        "ghost few: { turns ≤ 9 → Result Meter Meter }",
+        "the ghost field `Spun.few`: the clause says nothing",
+    ),
+    *(
+        Source(
+            f"a part `{part}`",
+            SCALE,
+            "result ≡ scale_of x",
+            f"(result ≡ scale_of x) × ({part})",
+            f"fn scale, line 6: `{' '.join(tokens(part))}` is trivially true",
+        )
+        for part in (
+            *("IsOk (Ok x)", "IsErr (Err x)", "IsSome (Some x)", "IsNone None", "(IsOk) ((Ok) x)"),
+            *("OnOk (Err x) (result ≡ 0)", "IfErr (Ok x) (λ y. result ≡ y)", "OnSome None (result ≡ 0)", "IfNone (Some x) (result ≡ 0)"),
+            *("Ok x ≢ Err x", "0 ≢ 1", "¬ (Some x ≡ None)", "¬ IsErr (Ok x)", "Ok x ≡ Err x → result ≡ 0", "IsSome None → result ≡ 0"),
+        )
+    ),
+]
+
 NAMES = [
     Source(
         "a `None` of its own",
@@ -1453,7 +1766,7 @@ STATEMENTS = [
         )
         for premise in (
             *("(h : ⊥)", "{h : ⊥}", "x ≢ x", "x < x", "(h : (x) < x)", "x < 0", "(most ≤ x) × (0 ≡ 1)", "(k : ℕ) {h : k ≢ k}"),
-            *("¬ (x ≡ x)", "¬ Unit {0}", "IsTrue false"),
+            *("¬ (x ≡ x)", "¬ Unit {0}", "IsTrue false", "(h : Ok x ≡ Err x)", "None ≡ Some x", "IsErr (Ok x)", "IsSome None"),
         )
     ),
     Source(
@@ -1578,7 +1891,7 @@ EDITS = [
     ),
 ]
 
-SOURCES = [*CONTRACTS, *NAMES, *PROOFS, *STATEMENTS, *EDITS]
+SOURCES = [*CONTRACTS, *IN_ARRAYS, *DECIDED, *NAMES, *PROOFS, *STATEMENTS, *EDITS]
 
 # Wrong lists over the right project: the slip, the list in place of the right one, the fault.
 LISTS = [
