@@ -15,7 +15,7 @@ use Rattle.known_verdict.specs.Laws.{IsId, NotId, IdSays}
 use Rattle.std.specs.Prelude.{None, Option, Some}
 
 -- a digit's bounds, and what stands behind it
-pub digit_first : (c : ℕ) (text : List ℕ) → digits_only (c ∷ text) ≡ true → ((digit_zero ≤ c) × (c ≤ digit_nine)) × (digits_only text ≡ true)
+digit_first : (c : ℕ) (text : List ℕ) → digits_only (c ∷ text) ≡ true → ((digit_zero ≤ c) × (c ≤ digit_nine)) × (digits_only text ≡ true)
 unfolding digits_only
 digit_first c text d =
     let p = (and-eq-true_iff (is_digit c) (digits_only text)).0 d in

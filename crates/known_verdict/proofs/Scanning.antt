@@ -1,90 +1,94 @@
--- An argument read by the library's `parse`, in the words of `id_in`; and which words and room hold one (specs/Laws.antt, `ArgumentSays`).
+-- An argument read from its front, a character at a time: the laws of `id_behind` and `id_in`, one for each end and turn of `read_id`'s loop; and which words
+-- and room hold one (specs/Laws.antt, `ArgumentSays`).
 use mathlib.Core.Path.{◌≡◌, refl, sym, ap, ◌∙◌}
 use mathlib.Core.Logic.{◌≢◌}
-use mathlib.Core.Bool.{Bool, true, false, cond, ◌&&◌, false≢true}
+use mathlib.Core.Bool.{Bool, true, false, cond, ◌&&◌}
 use mathlib.Core.List.{List, [], ◌∷◌}
-use Prim.Native.Nat.{ℕ, ◌≤◌, ◌<◌, ◌^◌}
+use Prim.Native.Nat.{ℕ, ◌+◌, ◌≤◌, ◌<◌}
+use native.Mathlib.Numerals.{add-one}
 use native.Mathlib.Omega.{arith}
-use borrow.Author.Tests.{le-leb, lt-leb, lt-ltb, ltb-true, ne_eqb}
-use borrow.Author.Rules.{rules}
-use lib.Dec.{ltb, eqb}
-use lib.ListN.{length, get_or, take}
-use Rattle.std.specs.Prelude.{None, Option, Some, Ok, Err, Result, MatchResult}
-use Rattle.std.specs.Result.{OkIff, result_ok}
-use Rattle.std.specs.List.{starts_with}
-use Rattle.std.specs.Str.{IsUtf8, IsAscii}
-use Rattle.std.specs.Str.Parse.{ParsesUnsigned}
-use Rattle.std.proofs.lemmas.Option.{none-some, same_Some}
-use Rattle.std.proofs.lemmas.Str.{IsUtf8-from_ascii}
-use Rattle.std.proofs.lemmas.Str.Ascii.{IsAscii-nil, IsAscii-cons}
-use Rattle.std.proofs.lemmas.Str.Parse.{IsNumeralModel, numerals_by_fold, parse_plain}
-use Rattle.known_verdict.specs.Argument.{ids_limit, digits_only, value_behind, id_behind, id_in}
+use borrow.Author.Tests.{lt-ltb, le-ltb, le-leb, lt-leb, ne_eqb}
+use lib.Dec.{eqb}
+use lib.ListN.{length, get_or, take, drop, drop_of_length-le}
+use lib.Seq.{drop-cons}
+use Rattle.std.specs.Prelude.{None, Option, Some}
+use Rattle.verdict_line.specs.Decimal.{digit_zero}
+use Rattle.known_verdict.specs.Argument.{ids_limit, digit_nine, digits_only, digit_behind, value_behind, id_behind, id_in}
 use Rattle.known_verdict.specs.Argument.{words_wanted, argument_in, argument_of}
 use Rattle.known_verdict.specs.Laws.{ArgumentSays}
-use Rattle.known_verdict.proofs.Numerals.{digit_first}
 
--- the library's words for a numeral and its value, in this crate's
-own : IsNumeralModel (λ (ds : List ℕ). digits_only ds ≡ true) (value_behind 0)
-unfolding digits_only value_behind
-own = numerals_by_fold _ (search rules) value_behind (search rules)
+-- more digits never make a number less
+value_grows : (n : ℕ) (text : List ℕ) → n ≤ value_behind n text
+unfolding value_behind
+value_grows n [] = omega arith
+value_grows n (c ∷ text) = omega (arith, value_grows (digit_behind n c) text)
 
--- a text that is an id is ASCII
-digits_ascii : (text : List ℕ) → digits_only text ≡ true → IsAscii text
-digits_ascii [] d = IsAscii-nil
-digits_ascii (c ∷ text) d = let p = digit_first c text d in IsAscii-cons c text (omega arith) (digits_ascii text p.1)
+-- the next character is a digit, or stands before or behind the digits; and nothing more is looked at once the limit is passed
+module _ (n : ℕ) where
+  digit_next : (c : ℕ) (text : List ℕ) → digit_zero ≤ c → c ≤ digit_nine → id_behind n (c ∷ text) ≡ id_behind (digit_behind n c) text
+  unfolding id_behind digits_only value_behind
+  digit_next c text l h = rw (le-leb digit_zero c l, le-leb c digit_nine h)
 
-none_by : (text : List ℕ) → (digits_only text ≡ true → ⊥) → None ≡ id_in text
-unfolding id_in id_behind
-none_by [] f = refl
-none_by (c ∷ text) f = on (digits_only (c ∷ text)) refl
-  where
-    on : (t : Bool) → digits_only (c ∷ text) ≡ t → None ≡ cond (t && ltb (value_behind 0 (c ∷ text)) ids_limit) (Some (value_behind 0 (c ∷ text))) None
-    on true e = absurd (f e)
-    on false e = refl
+  before_digits : (c : ℕ) (text : List ℕ) → c < digit_zero → id_behind n (c ∷ text) ≡ None
+  unfolding id_behind digits_only
+  before_digits c text h = rw (lt-leb digit_zero c h)
 
--- `read_id`: a plus sign in front is no digit
-plus_first : (text : List ℕ) → starts_with eqb text (43 ∷ []) ≡ true → get_or text 0 0 ≡ 43
-plus_first [] e = absurd (false≢true e)
-plus_first (c ∷ text) e = search rules
+  behind_digits : (c : ℕ) (text : List ℕ) → digit_nine < c → id_behind n (c ∷ text) ≡ None
+  unfolding id_behind digits_only
+  behind_digits c text h = let l : digit_zero ≤ c = omega arith in rw (le-leb digit_zero c l, lt-leb c digit_nine h)
 
-no_plus : (text : List ℕ) → starts_with eqb text (43 ∷ []) ≡ false → get_or text 0 0 ≢ 43
-no_plus [] e f = absurd (omega arith)
-no_plus (c ∷ text) e f = search rules
+  past_limit : (text : List ℕ) → ids_limit ≤ n → id_behind n text ≡ None
+  unfolding id_behind
+  past_limit text h =
+      let g = value_grows n text in
+      let l : ids_limit ≤ value_behind n text = omega arith in
+      rw (le-ltb (value_behind n text) ids_limit l) (on (digits_only text))
+    where
+      on : (t : Bool) → cond (t && false) (Some (value_behind n text)) None ≡ None
+      on true = refl
+      on false = refl
 
-pub signed : (text : List ℕ) → starts_with eqb text (43 ∷ []) ≡ true → None ≡ id_in text
-signed [] e = absurd (false≢true e)
-signed (c ∷ text) e =
-    let p = plus_first (c ∷ text) e in
-    none_by (c ∷ text) (λ d. let q = digit_first c text d in omega arith)
+  all_read : n < ids_limit → id_behind n [] ≡ Some n
+  unfolding id_behind digits_only value_behind
+  all_read h = rw (lt-ltb n ids_limit h)
 
--- the bytes are no text
-pub no_text : {S X : Type 0} (P : S → Type 0) (Q : X → Type 0) (text : List ℕ) (r : Result S X)
-    → MatchResult r P (λ x. (IsUtf8 text → ⊥) × Q x) → result_ok r ≡ None → None ≡ id_in text
-no_text P Q text (Ok s) m e = absurd (none-some s (sym e))
-no_text P Q text (Err x) m e = none_by text (λ d. m.0 (IsUtf8-from_ascii text (digits_ascii text d)))
+-- ---- the loop
 
--- they are this text
-pub same_text : {S X : Type 0} (P : S → Type 0) (Q : X → Type 0) (r : Result S X) {s : S} → MatchResult r P Q → result_ok r ≡ Some s → P s
-same_text P Q (Ok t) {s} m e = rw (same_Some t s e) at m
-same_text P Q (Err x) {s} m e = absurd (none-some s e)
+-- no character at all
+pub empty_read : (text : List ℕ) → length text ≡ 0 → None ≡ id_in text
+unfolding id_in
+empty_read [] e = refl
+empty_read (c ∷ text) e = absurd (omega arith)
 
-parsed_as : {X : Type 0} (r : Result ℕ X) (text : List ℕ)
-    → OkIff r ((digits_only text ≡ true) × (0 < length text) × (value_behind 0 text < 2 ^ 32)) (value_behind 0 text) → result_ok r ≡ id_in text
-unfolding id_in id_behind
-parsed_as (Ok n) [] q = absurd (omega arith)
-parsed_as (Ok n) (c ∷ text) q = rw (q.1, q.0.0, lt-ltb (value_behind 0 (c ∷ text)) ids_limit q.0.2)
-parsed_as (Err z) [] q = refl
-parsed_as (Err z) (c ∷ text) q = on (digits_only (c ∷ text)) refl (ltb (value_behind 0 (c ∷ text)) ids_limit) refl
-  where
-    on : (s : Bool) → digits_only (c ∷ text) ≡ s → (t : Bool) → ltb (value_behind 0 (c ∷ text)) ids_limit ≡ t
-        → None ≡ cond (s && t) (Some (value_behind 0 (c ∷ text))) None
-    on true d true l = absurd (q (d, omega arith, ltb-true _ _ l))
-    on true d false l = refl
-    on false d t l = refl
+pub read_starts : (text : List ℕ) → 0 < length text → id_behind 0 (drop 0 text) ≡ id_in text
+unfolding id_in
+read_starts [] h = absurd (omega arith)
+read_starts (c ∷ text) h = refl
 
--- they are parsed
-pub parsed : {X : Type 0} (text : List ℕ) (r : Result ℕ X) → ParsesUnsigned 32 10 text r → starts_with eqb text (43 ∷ []) ≡ false → result_ok r ≡ id_in text
-parsed text r p f = parsed_as r text (parse_plain own 32 text r p (no_plus text f))
+-- what is left, behind the number read so far, is the whole argument's id
+module _ (text : List ℕ) (i n : ℕ) (e : id_behind n (drop i text) ≡ id_in text) where
+  pub read_ends : length text ≤ i → n < ids_limit → Some n ≡ id_in text
+  read_ends h l = sym (all_read n l) ∙ ap (id_behind n) (sym (drop_of_length-le text h)) ∙ e
+
+  module _ (h : i < length text) where
+    left : id_in text ≡ id_behind n (get_or text i 0 ∷ drop (i + 1) text)
+    left = sym e ∙ rw (add-one, drop-cons text i 0)
+
+    pub stops_before : get_or text i 0 < digit_zero → None ≡ id_in text
+    stops_before l = sym (left ∙ before_digits n _ _ l)
+
+    pub stops_behind : digit_nine < get_or text i 0 → None ≡ id_in text
+    stops_behind l = sym (left ∙ behind_digits n _ _ l)
+
+    module _ (low : digit_zero ≤ get_or text i 0) (high : get_or text i 0 ≤ digit_nine) where
+      pub goes_on : id_behind (digit_behind n (get_or text i 0)) (drop (i + 1) text) ≡ id_in text
+      goes_on = sym (left ∙ digit_next n _ _ low high)
+
+      pub stops_past : ids_limit ≤ digit_behind n (get_or text i 0) → None ≡ id_in text
+      stops_past l = sym (sym goes_on ∙ past_limit _ _ l)
+
+-- the loop's turn and its ends
+pub ruleset turns = (goes_on, stops_before, stops_behind, stops_past, empty_read, read_ends)
 
 -- ---- the argument
 

@@ -9,20 +9,38 @@ ghost use Rattle.known_verdict.specs.Asked.{sought_line, id_line};
 
 use key_book::Sought;
 use refusal::Refusal;
-use std::str;
-use verdict_line::Line;
+use verdict_line::{DIGIT_ZERO, Line};
+
+// The last of the digits, the character 9.
+const DIGIT_NINE: u8 = b'9';
 
 // How many words a program is started with that has one argument: its own name is the first.
 const WORDS_WANTED: usize = 2;
 
-// Reads an id in decimal: one or more digits, zeros in front among them, and nothing else. The library's `parse` takes a plus sign in front too.
+// Every id is below this.
+const IDS_LIMIT: u64 = 4294967296;
+
+// Reads an id in decimal: one or more digits, zeros in front among them, and nothing else. It ends where the limit is reached, so that nothing wraps,
+// however long the text is. No `parse`: it is of a `str`, so the whole text would be read before any of it is judged; its digits and its limit stand in no
+// constant here; and it takes a plus sign in front.
+#[tactic(auto, using(crate::proofs::Scanning::turns))]
 fn read_id(text: &[u8]) -> Option<u32>
     ensures { result ≡ id_in text.now }
 {
-    if text.starts_with(b"+") {
+    if text.is_empty() {
         return None;
     }
-    str::from_utf8(text).ok()?.parse().ok()
+    let mut id: u64 = 0;
+    for &c in text {
+        if c < DIGIT_ZERO || DIGIT_NINE < c {
+            return None;
+        }
+        id = id * 10 + (c - DIGIT_ZERO) as u64;
+        if IDS_LIMIT <= id {
+            return None;
+        }
+    }
+    Some(id as u32)
 }
 
 // What the only argument asks for, where the program was started with so many words and so many bytes of the argument stand at the room's front. A size and a

@@ -28,7 +28,7 @@ pub const NUMBERED_MOST: usize = 84;
 const DIGITS_MOST: usize = 20;
 
 // The character 0; the other digits follow it.
-const DIGIT_ZERO: u8 = b'0';
+pub const DIGIT_ZERO: u8 = b'0';
 
 // What a line says.
 #[derive(Clone, Copy, Debug, PartialEq, Eq)]
