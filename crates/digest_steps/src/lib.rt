@@ -84,6 +84,6 @@ pub extern "C" fn digest_finish(
     ensures bytes { digest.new ≡ given_or no_digest (finish_of (state_of words.now tail.now total)) }
 {
     let answer = state_of(words, tail, total).finish();
-    *digest = answer.unwrap_or([0u8; DIGEST_SIZE]);
+    *digest = md5_digest::handed(answer);
     refusal::result_number(answer)
 }

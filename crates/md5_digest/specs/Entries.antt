@@ -38,7 +38,7 @@ absorb d s = settle (held d ++ s) d.words (d.total + length s)
 abbrev pub digest_size : ℕ
 digest_size = 16
 
--- zeros, which C is given in the place of a digest that is refused
+-- zeros, which are handed over in the place of a digest that is refused
 abbrev pub no_digest : List ℕ
 no_digest = zeros digest_size
 

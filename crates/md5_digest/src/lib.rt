@@ -10,7 +10,8 @@ ghost use Rattle.std.specs.Prelude.{◌≡◌};
 ghost use Rattle.md5_block.specs.Block.{compress};
 ghost use Rattle.md5_digest.specs.Block.{load};
 ghost use Rattle.md5_digest.specs.Message.{start};
-ghost use Rattle.md5_digest.specs.Entries.{fresh, feed_of, finish_of, md5_of, after_rest};
+ghost use Rattle.refusal.specs.Number.{given_or};
+ghost use Rattle.md5_digest.specs.Entries.{no_digest, fresh, feed_of, finish_of, md5_of, after_rest};
 
 use crate::blocks::{all_blocks, ended, words_of};
 use crate::pieces::absorbed;
@@ -120,4 +121,11 @@ pub fn md5(message: &[u8]) -> Result<[u8; DIGEST_SIZE], Refusal>
     }
     let last = all_blocks(start_words(), message, message.len());
     Ok(bytes_of(last))
+}
+
+// The bytes that an answer hands over where a digest or a MAC has its place: those of the digest, and 16 zero bytes for a refusal (docs/RULES.md, 'Numbers').
+pub fn handed(answer: Result<[u8; DIGEST_SIZE], Refusal>) -> [u8; DIGEST_SIZE]
+    ensures { result ≡ given_or no_digest answer }
+{
+    answer.unwrap_or([0u8; DIGEST_SIZE])
 }

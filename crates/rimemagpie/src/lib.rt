@@ -59,7 +59,7 @@ pub extern "C" fn rimemagpie_digest(message: &[u8], digest: &mut [u8; DIGEST_SIZ
     ensures bytes { digest.new ≡ given_or no_digest (md5_of message.now) }
 {
     let digested = md5_digest::md5(message);
-    *digest = digested.unwrap_or([0u8; DIGEST_SIZE]);
+    *digest = md5_digest::handed(digested);
     refusal::result_number(digested)
 }
 
@@ -70,7 +70,7 @@ pub extern "C" fn rimemagpie_hmac(key: &[u8], message: &[u8], mac: &mut [u8; DIG
     ensures bytes { mac.new ≡ given_or no_digest (hmac_of key.now message.now) }
 {
     let answer = hmac_md5::hmac(key, message);
-    *mac = answer.unwrap_or([0u8; DIGEST_SIZE]);
+    *mac = md5_digest::handed(answer);
     refusal::result_number(answer)
 }
 
