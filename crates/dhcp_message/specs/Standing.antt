@@ -1,5 +1,5 @@
 -- What stands at an offset of a message's options, by the one reader of tokens (specs/Options.antt, `lead`): for a pass over the options.
-use Rattle.std.specs.Prelude.{ℕ, ◌+◌, ◌-◌, ◌≡◌, List, [], ◌∷◌, length, drop, Option, None, Some}
+use Rattle.std.specs.Prelude.{ℕ, ◌+◌, ◌-◌, ◌≡◌, ◌≢◌, List, [], ◌∷◌, length, drop, Option, None, Some}
 use Rattle.std.specs.Borrow.{Bor}
 use Rattle.std.specs.Iterator.{Count, at_most}
 use Rattle.dhcp_message.specs.Layout.{header_size, pad_size, option_head}
@@ -36,10 +36,11 @@ behind size at End = size
 behind size at Pad = at + pad_size
 behind size at (Opt c n) = at + n
 
--- what stands at the offset came, with the offset, and what stands behind it comes next
+-- what stands at the offset came, with the offset, and what stands behind it comes next; what is broken doesn't come
 pub record GivesHere (s : Options) (at : ℕ) (here : Here) (t : Options) : Type 0 where
   pub place : at ≡ s.at
   pub stands : here ≡ here_at s.message.now s.at
+  pub whole : here ≢ Broken
   pub same : t.message.now ≡ s.message.now
   pub next : t.at ≡ behind (length s.message.now) s.at here
 

@@ -56,12 +56,13 @@ impl<'m> Iterator for Options<'m> {
     fn next(&mut self) -> Option<(usize, Here)> {
         let at = self.at;
         let here = here_at(self.message, at);
-        self.at = match here {
+        let taken = match here {
             Here::Broken => return None,
-            Here::End => self.message.len(),
-            Here::Pad => at + PAD_SIZE,
-            Here::Opt { code: _, size } => at + size,
+            Here::End => self.message.len() - at,
+            Here::Pad => PAD_SIZE,
+            Here::Opt { code: _, size } => size,
         };
+        self.at = at + taken;
         Some((at, here))
     }
 }
