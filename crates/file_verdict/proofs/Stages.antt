@@ -1,28 +1,17 @@
 -- The card's and the message's decisions, a law for each end: the file may not be judged, or its bytes are handed on to reading or check.
-use mathlib.Core.Path.{◌≡◌, refl, ap, ◌∙◌}
+use mathlib.Core.Path.{◌≡◌, refl, sym, ap, ◌∙◌}
 use mathlib.Core.List.{List}
 use Prim.Native.Nat.{ℕ}
 use Rattle.key_book.specs.Book.{Book}
 use Rattle.delayed_auth.specs.Check.{check_of, marks_after, received_after}
-use Rattle.book_card.specs.Reading.{read_of, read_book, rows_given}
+use Rattle.book_card.specs.Reading.{read_of, read_book}
 use Rattle.verdict_line.specs.declared.Line.{Line}
-use Rattle.verdict_line.specs.declared.Line.TheVariants.{Refused, Unreadable}
-use Rattle.file_verdict.specs.Files.{readable, loaded_by, loaded_of, rows_loaded, book_loaded}
+use Rattle.verdict_line.specs.declared.Line.TheVariants.{Unreadable}
+use Rattle.file_verdict.specs.Files.{readable, loaded_by, loaded_of, book_loaded}
 use Rattle.file_verdict.specs.Files.{verdict_line, message_line, marks_left, received_left}
-use Rattle.std.specs.Prelude.{Err, None, Ok, Option, Result, Some, ℕ, IsErrAnd, MatchResult}
-use Rattle.std.proofs.lemmas.Result.{err_from_is_err_and}
+use Rattle.std.specs.Prelude.{Err, None, Option, Result, Some, ℕ}
 use Rattle.delayed_auth.specs.declared.Accepted.{Accepted}
 use Rattle.refusal.specs.declared.Refusal.{Refusal}
-
--- what `load_card` makes of the answer of reading the card: the same rows, and the refusal as a line
-pub as_loaded : (answer : Result ℕ Refusal) {r : Result ℕ Line} → MatchResult answer (λ n. r ≡ Ok n) (λ q. IsErrAnd r (λ line. line ≡ Refused q))
-    → r ≡ loaded_by answer
-as_loaded (Ok n) m = m
-as_loaded (Err q) {r} m = let p = err_from_is_err_and r m in p.1 ∙ ap Err p.2
-
-pub as_rows : (answer : Result ℕ Refusal) → rows_loaded (loaded_by answer) ≡ rows_given answer
-as_rows (Ok n) = refl
-as_rows (Err q) = refl
 
 module _ (b : Book) (file : Option (List ℕ)) where
   -- the file may not be judged: the line says so, and what was lent is as it was
@@ -37,9 +26,9 @@ module _ (b : Book) (file : Option (List ℕ)) where
 
   -- it is handed on: by what was made of the answer
   module _ {s : List ℕ} (e : readable file ≡ Some s) where
-    pub card_read : {answer : Result ℕ Refusal} {r : Result ℕ Line} → r ≡ loaded_by answer → answer ≡ read_of b s → r ≡ loaded_of b file
+    pub card_read : {answer met : Result ℕ Refusal} → answer ≡ met → answer ≡ read_of b s → loaded_by met ≡ loaded_of b file
     unfolding loaded_of
-    card_read m a = rw e (m ∙ ap loaded_by a)
+    card_read m a = rw e (ap loaded_by (sym m ∙ a))
 
     pub book_read : {after : Book} → after ≡ read_book b s → after ≡ book_loaded b file
     unfolding book_loaded

@@ -63,7 +63,11 @@ pub fn load_card(content: Option<usize>, room: &[u8], book: &mut LentRoom) -> Re
     ensures after { room_in book.new (rows_loaded result) ≡ book_loaded (room_in book.old 0) (file_in room.now content) }
 {
     let size = within_limit(content, room).ok_or(Line::Unreadable)?;
-    book_card::card_read(&room[..size], book).map_err(Line::Refused)
+    // By cases and no `map_err`: each is a line that an edit of must-fail/ changes by itself.
+    match book_card::card_read(&room[..size], book) {
+        Ok(rows) => Ok(rows),
+        Err(refusal) => Err(Line::Refused(refusal)),
+    }
 }
 
 // The line for what a check said. No `From`: both types are of other crates.

@@ -42,9 +42,10 @@ fn padded_key(key: &[u8]) -> [u8; BLOCK_SIZE]
 fn masked_block(block: [u8; BLOCK_SIZE], mask: u8) -> [u8; BLOCK_SIZE]
     ensures { result ≡ map (λ b. bit_xor b mask) block }
 {
+    // By place, so that the limit is a number of its own, which an edit of must-fail/ moves.
     let mut masked = block;
-    for byte in &mut masked {
-        *byte ^= mask;
+    for i in 0..BLOCK_SIZE {
+        masked[i] ^= mask;
     }
     masked
 }

@@ -7,7 +7,7 @@ use Rattle.refusal.proofs.Raised.{asked_there, asked_none}
 use Rattle.key_book.specs.Book.{Book}
 use Rattle.key_book.specs.Lent.{room_in}
 use Rattle.file_verdict.proofs.Contents.{judged_by_lem}
-use Rattle.file_verdict.proofs.Stages.{card_none, card_read, book_read, as_loaded, as_rows}
+use Rattle.file_verdict.proofs.Stages.{card_none, card_read, book_read}
 use borrow.Author.Rules.{rules}
 use Rattle.file_verdict.proofs.load_card.Goals as goal
 use Rattle.file_verdict.proofs.load_card.Goals.{Start, In_ok-size}
@@ -30,13 +30,16 @@ pub slice_bounds-card_read-end : goal.slice_bounds-card_read-end
 slice_bounds-card_read-end c =
     sym (length-take-le _ _ (rw (there c) at (judged_by_lem _ _ c.within_limit.ensures)).0)
 
-pub returns : goal.returns
-returns c =
-    let b = lent (goal.at.returns c).Start in
-    let j = (rw (there (goal.at.returns c).In_ok-size) at (judged_by_lem _ _ c.within_limit.ensures)).1 in
-    let m = as_loaded c.card_read.result c.map_err.ensures.cases in
-    record {
-      same = c.card_read.ensures.same;
-      answer = card_read b _ j m c.card_read.ensures.answer;
-      after = rw (m, as_rows c.card_read.result) (book_read b _ j c.card_read.ensures.after);
-    }
+pub returns-in-Ok : goal.returns-in-Ok
+returns-in-Ok c =
+    let b = lent (goal.at.returns-in-Ok c).Start in
+    let j = (rw (there (goal.at.returns-in-Ok c).In_ok-size) at (judged_by_lem _ _ c.within_limit.ensures)).1 in
+    let e = c.card_read.ensures in
+    record { same = e.same; answer = card_read b _ j c.in-Ok.is e.answer; after = book_read b _ j (rw c.in-Ok.is at e.after) }
+
+pub returns-in-Err : goal.returns-in-Err
+returns-in-Err c =
+    let b = lent (goal.at.returns-in-Err c).Start in
+    let j = (rw (there (goal.at.returns-in-Err c).In_ok-size) at (judged_by_lem _ _ c.within_limit.ensures)).1 in
+    let e = c.card_read.ensures in
+    record { same = e.same; answer = card_read b _ j c.in-Err.is e.answer; after = book_read b _ j (rw c.in-Err.is at e.after) }

@@ -3,7 +3,7 @@ use Rattle.std.proofs.Common.{◌≡◌, ◌++◌, map, take, drop, length, bit_
 use Rattle.md5_digest.specs.Block.{block_size}
 use Rattle.hmac_md5.proofs.masked_block.Given as goal
 
-abbrev pub invariant-loop-byte : goal.invariant-loop-byte
-invariant-loop-byte l =
-    (length l.fn.block ≡ block_size) × (length l.byte-items ≡ block_size)
-    × (l.byte-items ≡ map (λ b. bit_xor b l.mask) (take l.byte-index l.fn.block) ++ drop l.byte-index l.fn.block)
+abbrev pub invariant-loop-i : goal.invariant-loop-i
+invariant-loop-i l =
+    (length l.fn.block ≡ block_size) × (length l.masked ≡ block_size)
+    × (l.masked ≡ map (λ b. bit_xor b l.mask) (take l.i l.fn.block) ++ drop l.i l.fn.block)
